@@ -1,0 +1,3 @@
+pub mod Upd
+pub mod Box
+pub mod Masks

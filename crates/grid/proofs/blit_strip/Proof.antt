@@ -1,0 +1,145 @@
+-- `surface::blit_strip` meets its contract. Assumes nothing.
+use mathlib.Core.Path.{_≡_, refl, sym, ap, _∙_}
+use Prim.Native.Nat.{ℕ, _+_, _-_, _*_, _≤_, _<_}
+use native.Mathlib.Omega.{arith}
+use native.Mathlib.Nat.{add-assoc}
+use lib.ListN.{length, getD, length-set}
+use borrow.Author.Needs.{needs}
+use Rattle.grid.specs.Grid.{upd, rowed, boxed}
+use Rattle.grid.specs.Strip.{stripOver}
+use Rattle.grid.proofs.Upd.{length-upd}
+use Rattle.grid.proofs.Box.{spot, row-none, row-write, box-none, box-more}
+use Rattle.grid.proofs.blit_strip.Statement.{statement}
+use Rattle.grid.proofs.blit_strip.Tie as tie
+use Rattle.grid.proofs.blit_strip.Reads as reads
+use Rattle.grid.proofs.blit_strip.Lts as lts
+use Rattle.grid.proofs.put_over.Reads as put-over-reads
+
+abbrev Inv-loop2 : tie.InvT-loop2
+Inv-loop2 pixels₀ w h s y0 strip rows transparent x0 r at from c₀ pixels c =
+    (pixels ≡ upd (rowed w x0 (y0 + r) c (λ k o. stripOver strip transparent k r o)) pixels₀) × (c ≤ 8) × (length pixels ≡ length pixels₀) × (at + 8 ≤ length pixels₀) × (from + 8 ≤ length strip)
+
+abbrev μ-loop2 : tie.MeasureT-loop2
+μ-loop2 pixels₀ w h s y0 strip rows transparent x0 r at from c₀ pixels c = 8 - c
+
+abbrev Inv-loop : tie.InvT-loop
+Inv-loop pixels₀ w h s y0 strip rows transparent x0 r₀ pixels r =
+    (pixels ≡ upd (boxed w x0 y0 8 r (stripOver strip transparent)) pixels₀) × (r ≤ rows) × (length pixels ≡ length pixels₀)
+
+abbrev μ-loop : tie.MeasureT-loop
+μ-loop pixels₀ w h s y0 strip rows transparent x0 r₀ pixels r = rows - r
+
+-- the last cell of the row that a turn writes is within the buffer
+cell : (c : tie.In-loop Inv-loop2 μ-loop2 Inv-loop μ-loop) → (c .before .before .before .before .args .y0 + c .before .loop .r) * c .before .before .before .before .args .w + (8 * c .before .before .before .before .args .s + 7) < length (c .before .before .before .before .args .pixels .now)
+cell c = spot _ _ (c .before .before .before .before .args .h) _ _ 8 (c .before .before .before .before .args .rows) _ 7 (c .before .before .before .before .pre .0) (c .loop-test .taken) (omega arith)
+
+mul-x0 : tie.Need-mul-x0 Inv-loop2 μ-loop2 Inv-loop μ-loop
+mul-x0 c = omega arith
+
+loop-holds : tie.Need-loop-holds Inv-loop2 μ-loop2 Inv-loop μ-loop
+loop-holds c = (box-none _ _ _ _ _ _, omega arith, refl)
+
+add-at : tie.Need-add-at Inv-loop2 μ-loop2 Inv-loop μ-loop
+add-at c = omega arith
+
+mul-at : tie.Need-mul-at Inv-loop2 μ-loop2 Inv-loop μ-loop
+mul-at c = omega (arith, cell c)
+
+add-at-2 : tie.Need-add-at-2 Inv-loop2 μ-loop2 Inv-loop μ-loop
+add-at-2 c = omega (arith, cell c)
+
+mul-from : tie.Need-mul-from Inv-loop2 μ-loop2 Inv-loop μ-loop
+mul-from c = omega arith
+
+loop2-holds : tie.Need-loop2-holds Inv-loop2 μ-loop2 Inv-loop μ-loop
+loop2-holds c = (row-none _ _ _ _ _, omega arith, refl, omega (arith, cell c), omega arith)
+
+add-put-over : tie.Need-add-put-over Inv-loop2 μ-loop2 Inv-loop μ-loop
+add-put-over c = omega arith
+
+shared-slice-read-put-over : tie.Need-shared-slice-read-put-over Inv-loop2 μ-loop2 Inv-loop μ-loop
+shared-slice-read-put-over c = omega arith
+
+add-put-over-2 : tie.Need-add-put-over-2 Inv-loop2 μ-loop2 Inv-loop μ-loop
+add-put-over-2 c = omega arith
+
+slice-read-put-over : tie.Need-slice-read-put-over Inv-loop2 μ-loop2 Inv-loop μ-loop
+slice-read-put-over c = omega arith
+
+put-over-requires : tie.Need-put-over-requires Inv-loop2 μ-loop2 Inv-loop μ-loop
+put-over-requires c κs = search needs
+
+add-pixels : tie.Need-add-pixels Inv-loop2 μ-loop2 Inv-loop μ-loop
+add-pixels c = omega arith
+
+slice-write-pixels : tie.Need-slice-write-pixels Inv-loop2 μ-loop2 Inv-loop μ-loop
+slice-write-pixels c = omega arith
+
+add-c : tie.Need-add-c Inv-loop2 μ-loop2 Inv-loop μ-loop
+add-c c = omega arith
+
+loop2-less : tie.Need-loop2-less Inv-loop2 μ-loop2 Inv-loop μ-loop
+loop2-less c = omega arith
+
+loop2-again : tie.Need-loop2-again Inv-loop2 μ-loop2 Inv-loop μ-loop
+loop2-again c =
+    let at-loop2 = c .before .before .before .before in
+    let inv = at-loop2 .loop2 .inv in (
+      row-write _ _ _ _ _ _ _ (omega arith) (inv .0) _ _ (omega arith) (c .put-over .ensures),
+      omega arith,
+      simp length-set (inv .2),
+      inv .3,
+      inv .4,
+    )
+
+add-r : tie.Need-add-r Inv-loop2 μ-loop2 Inv-loop μ-loop
+add-r c = omega arith
+
+loop-less : tie.Need-loop-less Inv-loop2 μ-loop2 Inv-loop μ-loop
+loop-less c = omega arith
+
+loop-again : tie.Need-loop-again Inv-loop2 μ-loop2 Inv-loop μ-loop
+loop-again c =
+    let inv2 = c .before .loop2 .inv in
+    let inv = c .before .before .before .loop .inv in
+    let full : c .before .loop2 .c ≡ 8 = omega arith in
+    (box-more _ _ _ _ _ _ _ _ _ (inv .0) (rw full at (inv2 .0)), omega arith, inv2 .2 ∙ inv .2)
+
+same-length : tie.Need-same-length Inv-loop2 μ-loop2 Inv-loop μ-loop
+same-length c = omega arith
+
+returns : tie.Need-returns Inv-loop2 μ-loop2 Inv-loop μ-loop
+returns c =
+    let all : c .before .loop .r ≡ c .before .before .before .before .args .rows = omega arith in
+    rw all at (c .before .loop .inv .0)
+
+pub blit-strip-spec : {M : Type 1} → statement M
+blit-strip-spec =
+    tie.close
+    (tie.spec
+    Inv-loop2
+    μ-loop2
+    Inv-loop
+    μ-loop
+    mul-x0
+    loop-holds
+    add-at
+    mul-at
+    add-at-2
+    mul-from
+    loop2-holds
+    add-put-over
+    shared-slice-read-put-over
+    add-put-over-2
+    slice-read-put-over
+    put-over-requires
+    add-pixels
+    slice-write-pixels
+    add-c
+    loop2-less
+    loop2-again
+    add-r
+    loop-less
+    loop-again
+    same-length
+    returns)

@@ -1,0 +1,26 @@
+-- What rows of mask bytes make of the bytes below them. Plane k, strip s, row y stands at ((k - 1) * h + y) * width + s. Assumes nothing.
+use mathlib.Core.Bool.{Bool}
+use mathlib.Core.List.{List}
+use Prim.Native.Nat.{ℕ, _+_, _*_, _≤_, _<_}
+use lib.Bits.{bitOr}
+use lib.ListN.{getD}
+use Rattle.grid.specs.Grid.{pick}
+
+-- v in the place of o, or the bits of both
+abbrev pub merged : Bool → ℕ → ℕ → ℕ
+merged replace v o = pick replace v (bitOr o v)
+
+-- the mask byte at row r of a column one strip wide
+abbrev pub rowsOver : List ℕ → Bool → ℕ → ℕ → ℕ → ℕ
+rowsOver rows replace c r o = merged replace (getD rows r 0) o
+
+-- rows y0 to y0 + n of strip s of plane k stand within a buffer of len bytes
+pub record Plane (len width h planes k s y0 n : ℕ) : Type 0 where
+  pub wide : width ≤ 128
+  pub high : h ≤ 200
+  pub few : planes ≤ 4
+  pub room : width * (planes * h) ≤ len
+  pub first : 1 ≤ k
+  pub last : k ≤ planes
+  pub right : s < width
+  pub low : y0 + n ≤ h

@@ -1,0 +1,15 @@
+-- What a strip of pixels, 8 wide and given by rows, makes of the cell below it. Assumes nothing.
+use mathlib.Core.Bool.{Bool, _&&_}
+use mathlib.Core.List.{List}
+use Prim.Native.Nat.{ℕ, _+_, _*_}
+use lib.Dec.{eqb}
+use lib.ListN.{getD}
+use Rattle.grid.specs.Grid.{pick}
+
+-- the colour v over o: 255 lets o through where the strip is transparent
+abbrev pub over : Bool → ℕ → ℕ → ℕ
+over t v o = pick (t && eqb v 255) o v
+
+-- the strip's colour at column c and row r over o
+abbrev pub stripOver : List ℕ → Bool → ℕ → ℕ → ℕ → ℕ
+stripOver strip t c r o = over t (getD strip (8 * r + c) 0) o

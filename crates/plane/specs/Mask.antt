@@ -1,0 +1,36 @@
+-- What the bytes of a mask strip mean: its rows, or the number of its refusal.
+use mathlib.Core.Bool.{Bool, true, false}
+use mathlib.Core.List.{List, [], _∷_}
+use Prim.Native.Nat.{ℕ, zero, suc, _-_}
+use lib.ListN.{replicate}
+use lib.Dec.{ltb, leb}
+use Rattle.strip.specs.Strip.{Strip, refused, pixels, onto, glue}
+
+-- what is owed: so many literal rows (0: an operation comes next), or so many copies of the next byte
+pub data Owed : Type 0 where
+  literals : ℕ → Owed
+  copies : ℕ → Owed
+
+pub data Plan : Type 0 where
+  past : Plan
+  owe : Owed → Plan
+
+abbrev pub pick : Bool → Plan → Plan → Plan
+pick true a b = a
+pick false a b = b
+
+-- an operation byte, with k rows to go
+abbrev pub planOf : ℕ → ℕ → Plan
+planOf k op =
+    pick (ltb op 0x80)
+    (pick (ltb k op) past (owe (literals op)))
+    (pick (ltb k (op - 0x80)) past (owe (copies (op - 0x80))))
+
+-- the next k rows, from the bytes that are left
+unfoldable pub rowsOf : List ℕ → ℕ → Owed → Strip
+rowsOf [] zero p = pixels []
+rowsOf [] (suc k) p = refused 7
+rowsOf (b ∷ t) zero p = pixels []
+rowsOf (b ∷ t) (suc k) (copies n) = glue (replicate n b) (rowsOf t (suc k - n) (literals zero))
+rowsOf (b ∷ t) (suc k) (literals (suc n)) = onto b (rowsOf t k (literals n))
+rowsOf (op ∷ t) (suc k) (literals zero) = elim (planOf (suc k) op) [ past ↦ refused 8 | owe p ↦ rowsOf t (suc k) p ]

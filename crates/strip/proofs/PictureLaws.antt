@@ -1,0 +1,128 @@
+-- Laws of a strip's code and of where its pixels lie.
+use mathlib.Core.Path.{_≡_, refl, sym, ap, ap₂, _∙_, subst}
+use mathlib.Core.Bool.{Bool, true, false}
+use mathlib.Core.List.{List, [], _∷_, _++_}
+use Prim.Native.Nat.{ℕ, zero, suc, _+_, _-_, _*_, _/_, _%_, _≤_, _<_}
+use native.Mathlib.Nat.{mul-le-mul-right, le-of-eq}
+use native.Mathlib.Numerals.{add-one}
+use native.Mathlib.Omega.{arith}
+use borrow.Author.Tests.{ltb-false, leb-true, lt-ltb, le-ltb}
+use lib.ListN.{length, getD, take, drop, set, length-append, length-drop, take-append-drop}
+use lib.Seq.{take-suc-set, take-all, getD-take}
+use lib.Dec.{leb, ltb}
+use Rattle.strip.specs.declared.Answer.{Answer}
+use Rattle.strip.specs.declared.Answer.the-variants.{Drawn, Refused}
+use Rattle.strip.specs.declared.Made.{Made}
+use Rattle.strip.specs.declared.Kind.{Kind}
+use Rattle.bits.specs.Bits.{bitsOf}
+use Rattle.strip.specs.Strip.{Strip, decode, Filled}
+use Rattle.strip.specs.Picture.{notBelow, fiveFrom, sourceOf, upTo, over, Width, placed, Picture, refusal, picture, rawOf, codedOf, shown, stripOf, byKind, kindOf, Answered}
+
+pub five-from : (low code : ℕ) → fiveFrom low code ≡ true → (low ≤ code) × (code ≤ low + 4)
+unfolding fiveFrom
+five-from low code e = go (ltb code low) (leb (code - low) 4) refl refl e
+  where
+    go : (p q : Bool) → ltb code low ≡ p → leb (code - low) 4 ≡ q → notBelow p q ≡ true → (low ≤ code) × (code ≤ low + 4)
+    go true q ep eq e = absurd (let z : _≡_ {A = Bool} true false = sym e in no z)
+      where
+        no : _≡_ {A = Bool} true false → ⊥
+        no z = let y : _≡_ {A = ℕ} 0 1 = cc in omega arith
+    go false q ep eq e =
+      let h = ltb-false code low ep in
+      let k = leb-true (code - low) 4 (eq ∙ e) in
+      omega arith
+
+pub source-below : (h j : ℕ) → j < 8 * h → j % 8 * h + j / 8 < 8 * h
+source-below h j lt =
+    let m : j % 8 * h ≤ 7 * h = mul-le-mul-right h (omega arith) in
+    omega arith
+
+pub length-upTo : (f : ℕ → ℕ) (n : ℕ) → length (upTo f n) ≡ n
+length-upTo f zero = refl
+length-upTo f (suc n) = length-append (upTo f n) (f n ∷ []) ∙ ap (λ (k : ℕ). k + 1) (length-upTo f n) ∙ add-one n
+
+pub upTo-store : (f : ℕ → ℕ) (out : List ℕ) (j v : ℕ) → j < length out → take j out ≡ upTo f j → f j ≡ v → take (j + 1) (set out j v) ≡ upTo f (j + 1)
+upTo-store f out j v h e g =
+    rw add-one (take-suc-set {A = ℕ} out j v h ∙ ap (λ (p : List ℕ). p ++ (v ∷ [])) e ∙ ap (λ (x : ℕ). upTo f j ++ (x ∷ [])) (sym g))
+
+pub over-of : (xs out d : List ℕ) (n : ℕ) → length xs ≡ n → take n out ≡ xs → drop n out ≡ drop n d → out ≡ over xs d
+unfolding over
+over-of xs out d n len front back =
+    sym (ap (λ (k : ℕ). xs ++ drop k d) len ∙ ap (λ (t : List ℕ). xs ++ t) (sym back) ∙ ap (λ (t : List ℕ). t ++ drop n out) (sym front) ∙ take-append-drop n out)
+
+-- ---- answers
+
+pub answered-no : (x : Picture) (d : List ℕ) (n : ℕ) → x ≡ refusal n → Answered x d d (Refused n)
+answered-no x d n e = subst (λ q. Answered q d d (Refused n)) (sym e) (refl, refl)
+
+pub answered-yes : (x : Picture) (clear : Bool) (px d out : List ℕ) → x ≡ picture clear px → out ≡ over px d → Answered x d out (Drawn clear)
+answered-yes x clear px d out e f = subst (λ q. Answered q d out (Drawn clear)) (sym e) (refl, f)
+
+pub answered-from : (d out : List ℕ) (r : Answer) {x y : Picture} → x ≡ y → Answered y d out r → Answered x d out r
+answered-from d out r e h = subst (λ q. Answered q d out r) (sym e) h
+
+pub told-made : (n : ℕ) (x : Strip) (d out : List ℕ) {r r′ : Made} → r ≡ r′ → Filled n x d out r → Filled n x d out r′
+told-made n x d out e h = subst (λ q. Filled n x d out q) e h
+
+pub told-width : {r r′ : Kind} → r ≡ r′ → Width r → Width r′
+told-width e h = subst (λ q. Width q) e h
+
+-- the rest of a list from 2 on, as the part of a slice has it
+pub part-two : (s : List ℕ) → take (length s - 2) (drop 2 s) ≡ drop 2 s
+part-two s = take-all _ _ (le-of-eq (length-drop 2 s))
+
+pub raw-none : (h : ℕ) (s : List ℕ) → length s < 2 → rawOf h (drop 1 s) ≡ refusal 7
+unfolding rawOf
+raw-none h [] lt = refl
+raw-none h (a ∷ []) lt = refl
+raw-none h (a ∷ b ∷ t) lt = absurd (omega arith)
+
+pub raw-short : (h : ℕ) (s : List ℕ) → 2 ≤ length s → length s - 2 < 8 * h → rawOf h (drop 1 s) ≡ refusal 7
+unfolding rawOf
+raw-short h [] le lt = refl
+raw-short h (a ∷ []) le lt = refl
+raw-short h (a ∷ b ∷ t) le lt = rw (lt-ltb (length t) (8 * h) (omega arith))
+
+pub raw-full : (h : ℕ) (s : List ℕ) → 2 ≤ length s → 8 * h ≤ length s - 2 → rawOf h (drop 1 s) ≡ picture false (placed false h (drop 2 s))
+unfolding rawOf
+raw-full h [] le lt = absurd (omega arith)
+raw-full h (a ∷ []) le lt = absurd (omega arith)
+raw-full h (a ∷ b ∷ t) le lt = rw (le-ltb (length t) (8 * h) (omega arith))
+
+module _ (second vertical clear : Bool) (w h : ℕ) where
+  pub coded-none : (s : List ℕ) → length s < 2 → codedOf second vertical clear w h (drop 1 s) ≡ refusal 7
+  unfolding codedOf
+  coded-none [] lt = refl
+  coded-none (a ∷ []) lt = refl
+  coded-none (a ∷ b ∷ t) lt = absurd (omega arith)
+
+  pub coded-some : (s : List ℕ) → 2 ≤ length s
+      → codedOf second vertical clear w h (drop 1 s) ≡ shown vertical clear h (decode second w (8 * h) 1 (getD s 1 0) 1 (bitsOf (drop 2 s)))
+  unfolding codedOf
+  coded-some [] lt = absurd (omega arith)
+  coded-some (a ∷ []) lt = absurd (omega arith)
+  coded-some (a ∷ b ∷ t) lt = refl
+
+pub strip-none : (h : ℕ) (s : List ℕ) → length s < 1 → stripOf h s ≡ refusal 7
+unfolding stripOf
+strip-none h [] lt = refl
+strip-none h (a ∷ t) lt = absurd (omega arith)
+
+pub strip-some : (h : ℕ) (s : List ℕ) → 1 ≤ length s → stripOf h s ≡ byKind h (drop 1 s) (kindOf (getD s 0 0))
+unfolding stripOf
+strip-some h [] lt = absurd (omega arith)
+strip-some h (a ∷ t) lt = refl
+
+-- ---- only the first 8h pixels are placed
+
+source-lt : (vertical : Bool) (h j : ℕ) → j < 8 * h → sourceOf vertical h j < 8 * h
+source-lt true h j lt = source-below h j lt
+source-lt false h j lt = lt
+
+upTo-ext : (f g : ℕ → ℕ) (n : ℕ) → ((j : ℕ) → j < n → f j ≡ g j) → upTo f n ≡ upTo g n
+upTo-ext f g zero e = refl
+upTo-ext f g (suc n) e = ap₂ (λ (p : List ℕ) (x : ℕ). p ++ (x ∷ [])) (upTo-ext f g n (λ j h. e j (omega arith))) (e n (omega arith))
+
+pub placed-take : (vertical : Bool) (h : ℕ) (xs : List ℕ) → placed vertical h (take (8 * h) xs) ≡ placed vertical h xs
+unfolding placed
+placed-take vertical h xs = upTo-ext _ _ (8 * h) (λ j lt. getD-take (8 * h) xs (sourceOf vertical h j) 0 (source-lt vertical h j lt))
