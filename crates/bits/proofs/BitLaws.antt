@@ -50,8 +50,8 @@ low-join (suc m) n a b h =
     let odd : (a + b * 2 ^ suc m) % 2 ≡ a % 2 = omega (arith, e) in
     let half : (a + b * 2 ^ suc m) / 2 ≡ a / 2 + b * 2 ^ m = omega (arith, e) in
     ap (λ (k : ℕ). lowBits k (a + b * 2 ^ suc m)) (suc-add m n)
-        ∙ ap₂ (λ (r q : ℕ). eqb r 1 ∷ lowBits (m + n) q) odd half
-        ∙ ap {B = List Bool} (λ t. eqb (a % 2) 1 ∷ t) (low-join m n (a / 2) b (omega (arith, pow-suc 2 m)))
+    ∙ ap₂ (λ (r q : ℕ). eqb r 1 ∷ lowBits (m + n) q) odd half
+    ∙ ap {B = List Bool} (λ t. eqb (a % 2) 1 ∷ t) (low-join m n (a / 2) b (omega (arith, pow-suc 2 m)))
 
 pub length-low : (n x : ℕ) → length (lowBits n x) ≡ n
 unfolding lowBits
@@ -71,8 +71,7 @@ pub bits-enough : (s : List ℕ) (c : Cursor) (n : ℕ) → Held c → n ≤ c .
     → Pulled s (pull n (rest s c)) (Value (c .hand % 2 ^ n) (record { at = c .at; have = c .have - n; hand = c .hand / 2 ^ n }))
 unfolding rest
 bits-enough s c n held le =
-    let back : c .have - n + n ≡ c .have = omega arith in
-    (
+    let back : c .have - n + n ≡ c .have = omega arith in (
       pull-low n (c .have) (c .hand) (bitsOf (drop (c .at) s)) le,
       record { few = omega (arith, held .few); low = shr-lt (c .have - n) n (rw back (held .low)) },
     )
@@ -87,8 +86,7 @@ bits-refill s c n held lt le in-s byte =
     let top : b * 2 ^ c .have + c .hand < 2 ^ 8 * 2 ^ c .have = digits-lt byte (held .low) in
     let whole : c .hand + b * 2 ^ c .have < 2 ^ (8 + c .have) = rw pow-add (omega (arith, top)) in
     let joined : lowBits (c .have) (c .hand) ++ bitsOf (drop (c .at) s) ≡ lowBits (c .have + 8) (c .hand + b * 2 ^ c .have) ++ bitsOf (drop (c .at + 1) s) =
-      rw (drop-cons s (c .at) 0 in-s, add-one, low-join (c .have) 8 (c .hand) b (held .low)) (sym (append-assoc (lowBits (c .have) (c .hand)) (lowBits 8 b) (bitsOf (drop (suc (c .at)) s)))) in
-    (
+    rw (drop-cons s (c .at) 0 in-s, add-one, low-join (c .have) 8 (c .hand) b (held .low)) (sym (append-assoc (lowBits (c .have) (c .hand)) (lowBits 8 b) (bitsOf (drop (suc (c .at)) s)))) in (
       rw joined (pull-low n (c .have + 8) (c .hand + b * 2 ^ c .have) (bitsOf (drop (c .at + 1) s)) (omega arith)),
       record { few = omega (arith, held .few); low = shr-lt (c .have + 8 - n) n (rw back whole) },
     )

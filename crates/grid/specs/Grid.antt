@@ -39,4 +39,3 @@ pub record Inside (n w h x0 y0 bw bh : ℕ) : Type 0 where
 -- the first n elements are written: f gives the new value by the place and the old value
 unfoldable pub filled : ℕ → (ℕ → ℕ → ℕ) → ℕ → ℕ → ℕ
 filled n f i o = pick (ltb i n) (f i o) o
-

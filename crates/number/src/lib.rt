@@ -1,6 +1,6 @@
 // Numbers in a slice of bytes (document 01: u16 and u32 little-endian, block sizes big-endian, walk points signed).
 ghost use mathlib.Core.Path.{_≡_};
-ghost use Prim.Native.Nat.{_+_, _≤_};
+ghost use Prim.Native.Nat.{_+_, _≤_, _<_};
 ghost use lib.ListN.{length};
 ghost use Rattle.number.specs.Number.{be32, le16, le32, sle16, wideOf};
 
@@ -20,7 +20,7 @@ pub fn read_be32(s: &[u8], at: usize) -> usize
 
 pub fn read_le16(s: &[u8], at: usize) -> usize
     requires { ⌜ at + 2 ≤ length (now s) ⌝ }
-    ensures { λ r. ⌜ r ≡ le16 (now (s .entry)) at ⌝ }
+    ensures { λ r. ⌜ (r ≡ le16 (now (s .entry)) at) × (r < 65536) ⌝ }
 {
     wide(s[at]) + wide(s[at + 1]) * 256
 }
@@ -39,7 +39,7 @@ pub fn read_sle16(s: &[u8], at: usize) -> i32
 
 pub fn read_le32(s: &[u8], at: usize) -> usize
     requires { ⌜ at + 4 ≤ length (now s) ⌝ }
-    ensures { λ r. ⌜ r ≡ le32 (now (s .entry)) at ⌝ }
+    ensures { λ r. ⌜ (r ≡ le32 (now (s .entry)) at) × (r < 4294967296) ⌝ }
 {
     wide(s[at]) + wide(s[at + 1]) * 256 + wide(s[at + 2]) * 65536 + wide(s[at + 3]) * 16777216
 }

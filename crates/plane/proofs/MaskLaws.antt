@@ -49,7 +49,7 @@ module _ (t u : List ℕ) (b : ℕ) (e : t ≡ b ∷ u) where
   rows-op (suc n) (suc lit) p h l f = absurd (not-suc-le-zero l)
   rows-op (suc n) zero p h l f =
       ap (λ (y : List ℕ). rowsOf y (suc n) (literals zero)) e
-          ∙ ap (λ (q : Plan). elim q as (λ _. Strip) [ past ↦ refused 8 | owe r ↦ rowsOf u (suc n) r ]) f
+      ∙ ap (λ (q : Plan). elim q as (λ _. Strip) [ past ↦ refused 8 | owe r ↦ rowsOf u (suc n) r ]) f
 
   pub rows-past : (n lit : ℕ) → 0 < n → lit ≤ 0 → planOf n b ≡ past → rowsOf t n (literals lit) ≡ refused 8
   unfolding rowsOf
@@ -57,7 +57,7 @@ module _ (t u : List ℕ) (b : ℕ) (e : t ≡ b ∷ u) where
   rows-past (suc n) (suc lit) h l f = absurd (not-suc-le-zero l)
   rows-past (suc n) zero h l f =
       ap (λ (y : List ℕ). rowsOf y (suc n) (literals zero)) e
-          ∙ ap (λ (q : Plan). elim q as (λ _. Strip) [ past ↦ refused 8 | owe r ↦ rowsOf u (suc n) r ]) f
+      ∙ ap (λ (q : Plan). elim q as (λ _. Strip) [ past ↦ refused 8 | owe r ↦ rowsOf u (suc n) r ]) f
 
   pub rows-copies : (n m : ℕ) → 0 < n → rowsOf t n (copies m) ≡ glue (replicate m b) (rowsOf u (n - m) (literals 0))
   unfolding rowsOf
@@ -74,17 +74,16 @@ pub fill-store : (out d : List ℕ) (from k b : ℕ) → from + k < length out �
 fill-store out d from k b h e =
     let s : from + (k + 1) ≡ suc (from + k) = omega arith in
     ap (λ (m : ℕ). take m (set out (from + k) b)) s ∙ take-suc-set {A = ℕ} out (from + k) b h ∙ ap (λ (p : List ℕ). p ++ (b ∷ [])) e
-        ∙ append-assoc (take from d) (replicate k b) (b ∷ []) ∙ ap (λ (p : List ℕ). take from d ++ p) (replicate-append-replicate k 1 b)
+    ∙ append-assoc (take from d) (replicate k b) (b ∷ []) ∙ ap (λ (p : List ℕ). take from d ++ p) (replicate-append-replicate k 1 b)
 
 pub drop-more : (out d : List ℕ) (i n : ℕ) → drop i out ≡ drop i d → drop (i + n) out ≡ drop (i + n) d
 drop-more out d i n e = sym (drop-drop n i out) ∙ ap (drop n) e ∙ drop-drop n i d
 
 pub rows-all : (t : List ℕ) (p : Owed) (i h : ℕ) (out d : List ℕ) (x : Strip) → i ≡ h → x ≡ glue (take i out) (rowsOf t (h - i) p) → drop i out ≡ drop i d → Filled h x d out All
-rows-all t p i h out d x e f g =
-    (
-      f
-          ∙ ap (glue (take i out)) (rows-done t (h - i) p (omega arith))
-          ∙ ap pixels (append-nil (take i out))
-          ∙ ap (λ (m : ℕ). pixels (take m out)) e,
-      rw e at g,
-    )
+rows-all t p i h out d x e f g = (
+  f
+      ∙ ap (glue (take i out)) (rows-done t (h - i) p (omega arith))
+      ∙ ap pixels (append-nil (take i out))
+      ∙ ap (λ (m : ℕ). pixels (take m out)) e,
+  rw e at g,
+)

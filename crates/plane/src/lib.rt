@@ -8,7 +8,7 @@ ghost use Rattle.plane.specs.Mask.{rowsOf, literals};
 use strip::Made;
 
 // n copies of b into `out` from `from` on.
-fn fill(out: &mut [u8], from: usize, n: usize, b: u8)
+pub fn fill(out: &mut [u8], from: usize, n: usize, b: u8)
     requires { ⌜ from + n ≤ length (now out) ⌝ }
     ensures { λ _. ⌜ (take (from + n) (now (out .exit)) ≡ take from (now (out .entry)) ++ replicate n b) × (drop (from + n) (now (out .exit)) ≡ drop (from + n) (now (out .entry))) ⌝ }
 {

@@ -28,9 +28,9 @@ five-from low code e = go (ltb code low) (leb (code - low) 4) refl refl e
         no : _≡_ {A = Bool} true false → ⊥
         no z = let y : _≡_ {A = ℕ} 0 1 = cc in omega arith
     go false q ep eq e =
-      let h = ltb-false code low ep in
-      let k = leb-true (code - low) 4 (eq ∙ e) in
-      omega arith
+        let h = ltb-false code low ep in
+        let k = leb-true (code - low) 4 (eq ∙ e) in
+        omega arith
 
 pub source-below : (h j : ℕ) → j < 8 * h → j % 8 * h + j / 8 < 8 * h
 source-below h j lt =

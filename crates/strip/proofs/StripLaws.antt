@@ -75,13 +75,13 @@ module _ (second : Bool) (w n k left c s : ℕ) (l : List Bool) (more : n ≡ su
   unfolding decode
   decode-go left′ c′ s′ l′ e =
       ap (λ (m : ℕ). decode second w m left c s l) more
-          ∙ ap (λ (q : Move). elim q as (λ _. Strip) [ refuse r ↦ refused r | go a b d f ↦ onto b (decode second w k a b d f) ]) e
+      ∙ ap (λ (q : Move). elim q as (λ _. Strip) [ refuse r ↦ refused r | go a b d f ↦ onto b (decode second w k a b d f) ]) e
 
   pub decode-stop : (r : ℕ) → moveOf second w k left c s l ≡ refuse r → decode second w n left c s l ≡ refused r
   unfolding decode
   decode-stop r e =
       ap (λ (m : ℕ). decode second w m left c s l) more
-          ∙ ap (λ (q : Move). elim q as (λ _. Strip) [ refuse r ↦ refused r | go a b d f ↦ onto b (decode second w k a b d f) ]) e
+      ∙ ap (λ (q : Move). elim q as (λ _. Strip) [ refuse r ↦ refused r | go a b d f ↦ onto b (decode second w k a b d f) ]) e
 
 -- one more pixel is stored
 pub glue-store : (out : List ℕ) (i c : ℕ) (x : Strip) → i < length out → glue (take i out) (onto c x) ≡ glue (take (i + 1) (set out i c)) x
@@ -96,8 +96,7 @@ pub filled-all : (second : Bool) (w left c s : ℕ) (l : List Bool) (t total : �
     → x ≡ glue (take t out) (decode second w (total - t) left c s l) → drop t out ≡ drop t d → Filled total x d out All
 unfolding decode
 filled-all second w left c s l t total out d x e f g =
-    let z : total - t ≡ 0 = omega arith in
-    (
+    let z : total - t ≡ 0 = omega arith in (
       f
           ∙ ap (λ (m : ℕ). glue (take t out) (decode second w m left c s l)) z
           ∙ ap pixels (append-nil (take t out))

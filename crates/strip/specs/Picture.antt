@@ -94,7 +94,14 @@ unfoldable pub stripOf : ℕ → List ℕ → Picture
 stripOf h [] = refusal 7
 stripOf h (code ∷ t) = byKind h t (kindOf code)
 
--- the answer r, and the buffer d that is e after: a refusal changes nothing
+-- the code's answer to a strip, and the buffer d after it: a refusal changes nothing
+abbrev pub answerOf : Picture → Answer
+answerOf (refusal n) = Refused n
+answerOf (picture clear px) = Drawn clear
+
+abbrev pub drawnOver : Picture → List ℕ → List ℕ
+drawnOver (refusal n) d = d
+drawnOver (picture clear px) d = over px d
+
 abbrev pub Answered : Picture → List ℕ → List ℕ → Answer → Type 0
-Answered (refusal n) d e r = (r ≡ Refused n) × (e ≡ d)
-Answered (picture clear px) d e r = (r ≡ Drawn clear) × (e ≡ over px d)
+Answered p d e r = (r ≡ answerOf p) × (e ≡ drawnOver p d)

@@ -6,8 +6,11 @@ ghost use lib.ListN.{length, drop};
 ghost use Rattle.bits.specs.Bits.{Held, rest, pull};
 ghost use Rattle.strip.specs.Strip.{Went, Filled, indexOp, walkOp, runOp, changeOp, opOf, moveOf, decode};
 ghost use Rattle.strip.specs.Picture.{fiveFrom, kindOf, Width, sourceOf, placed, over, rawOf, codedOf, stripOf, Answered};
-use bits::{Bit, Bits, Cursor};
-use std::num::{wrapping_add_u8, wrapping_sub_u8};
+use bits::Bit;
+use bits::Bits;
+use bits::Cursor;
+use std::num::wrapping_add_u8;
+use std::num::wrapping_sub_u8;
 
 // Where a decode stands: `left` more pixels of `colour` are owed before the next operation is read at `cur`.
 pub struct State {
@@ -284,11 +287,7 @@ fn source(vertical: bool, h: usize, j: usize) -> usize
     requires { ⌜ (h ≤ 200) × (j < 8 * h) ⌝ }
     ensures { λ r. ⌜ (r ≡ sourceOf vertical h j) × (r < 8 * h) ⌝ }
 {
-    if vertical {
-        j % 8 * h + j / 8
-    } else {
-        j
-    }
+    if vertical { j % 8 * h + j / 8 } else { j }
 }
 
 // The pixels of `src`, by rows, into the first 8h bytes of `out`.
@@ -324,7 +323,15 @@ fn raw(body: &[u8], h: usize, out: &mut [u8]) -> Answer
     Answer::Drawn { clear: false }
 }
 
-fn coded(body: &[u8], second: bool, vertical: bool, clear: bool, w: u32, h: usize, out: &mut [u8]) -> Answer
+fn coded(
+    body: &[u8],
+    second: bool,
+    vertical: bool,
+    clear: bool,
+    w: u32,
+    h: usize,
+    out: &mut [u8],
+) -> Answer
     requires { ⌜ (1 ≤ w) × (w ≤ 8) × (h ≤ 200) × (1 ≤ length (now body)) × (8 * h ≤ length (now out)) ⌝ }
     ensures { λ r. ⌜ Answered (codedOf second vertical clear w h (drop 1 (now (body .entry)))) (now (out .entry)) (now (out .exit)) r ⌝ }
 {

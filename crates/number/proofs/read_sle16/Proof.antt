@@ -22,7 +22,7 @@ cast-result c = search needs
 
 -- src/lib.rt:39:16
 sub-result : tie.Need-sub-result
-sub-result c = omega (arith, c .before .before .shared-slice-known .given (c .before .before .before .args .at), c .before .before .shared-slice-known .given (c .before .before .before .args .at + 1))
+sub-result c = omega arith
 
 -- src/lib.rt:39:15
 cast-result-2 : tie.Need-cast-result-2
@@ -34,11 +34,11 @@ sub-result-2 c = neg-fits (65535 - c .before .read-le16 .result) (omega arith)
 
 -- src/lib.rt:31:1
 returns : tie.Need-returns
-returns c = rw (← c .before .read-le16 .ensures, lt-ltb _ _ (c .if1 .taken)) (toZ-pos w32 _ (omega arith))
+returns c = rw (← c .before .read-le16 .ensures .0, lt-ltb _ _ (c .if1 .taken)) (toZ-pos w32 _ (omega arith))
 
 -- src/lib.rt:31:1
 returns-2 : tie.Need-returns-2
-returns-2 c = rw (← c .before .read-le16 .ensures, le-ltb _ _ (c .if1 .left)) (neg-is _ (omega arith))
+returns-2 c = rw (← c .before .read-le16 .ensures .0, le-ltb _ _ (c .if1 .left)) (neg-is _ (omega arith))
 
 pub read-sle16-spec : {M : Type 1} → statement M
 read-sle16-spec =

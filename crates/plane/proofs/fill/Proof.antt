@@ -41,12 +41,11 @@ loop-less c = omega arith
 
 -- src/lib.rt:457:5
 loop-again : tie.Need-loop-again Inv-loop μ-loop
-loop-again c = 
+loop-again c =
     let a = c .before .before .args in
     let l = c .before .loop in
     let room : a .from + l .k < length (l .out) = omega (arith, l .inv .1) in
-    let on : a .from + l .k + 1 ≡ a .from + (l .k + 1) = omega arith in
-    (
+    let on : a .from + l .k + 1 ≡ a .from + (l .k + 1) = omega arith in (
       omega arith,
       length-set (l .out) (a .from + l .k) (a .b) ∙ l .inv .1,
       rw on at (drop-store (l .out) (now (a .out)) (a .from + l .k) (a .b) (l .inv .2)),
@@ -59,7 +58,7 @@ same-length c = c .before .loop .inv .1
 
 -- src/lib.rt:452:1
 returns : tie.Need-returns Inv-loop μ-loop
-returns c = 
+returns c =
     let l = c .before .loop in
     let done : l .k ≡ c .before .before .args .n = le-antisymm (l .inv .0) (c .loop-test .left) in
     (rw done at (l .inv .3), rw done at (l .inv .2))

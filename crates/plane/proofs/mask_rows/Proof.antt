@@ -19,14 +19,14 @@ use Rattle.plane.proofs.fill.Reads as fill-reads
 abbrev Inv-loop : tie.InvT-loop
 Inv-loop body h out₀ at₀ i₀ lit₀ out at i lit =
     (i ≤ h) × (at ≤ length body) × (length out ≡ length out₀) × (drop i out ≡ drop i out₀)
-        × (rowsOf body h (literals 0) ≡ glue (take i out) (rowsOf (drop at body) (h - i) (literals lit)))
+    × (rowsOf body h (literals 0) ≡ glue (take i out) (rowsOf (drop at body) (h - i) (literals lit)))
 
 abbrev μ-loop : tie.MeasureT-loop
 μ-loop body h out₀ at₀ i₀ lit₀ out at i lit = (h - i) + (length body - at)
 
 -- src/lib.rt:471:5
 loop-holds : tie.Need-loop-holds Inv-loop μ-loop
-loop-holds c = 
+loop-holds c =
     let a = c .before .before .args in
     (zero-le, zero-le, refl, refl, glue-none _ ∙ ap (λ (n : ℕ). glue [] (rowsOf (now (a .body)) n (literals 0))) (sym (sub-zero (a .h))))
 
@@ -36,7 +36,7 @@ same-length c = c .before .before .loop .inv .2
 
 -- src/lib.rt:473:13
 returns : tie.Need-returns Inv-loop μ-loop
-returns c = 
+returns c =
     let a = c .before .before .before .before .before .args in
     let l = c .before .before .loop in
     let s = now (a .body) in
@@ -70,7 +70,7 @@ loop-less c = omega arith
 
 -- src/lib.rt:471:5
 loop-again : tie.Need-loop-again Inv-loop μ-loop
-loop-again c = 
+loop-again c =
     let a = c .before .before .before .before .before .before .before .args in
     let l = c .before .before .before .before .loop in
     let s = now (a .body) in
@@ -79,8 +79,7 @@ loop-again c =
     let byte = getD s (l .at) 0 in
     let e = from-at s (l .at) (c .before .before .if1 .left) in
     let room : l .i < length (l .out) = omega (arith, l .inv .2) in
-    let next : n ≡ suc (a .h - (l .i + 1)) = omega arith in
-    (
+    let next : n ≡ suc (a .h - (l .i + 1)) = omega arith in (
       omega arith,
       omega arith,
       length-set (l .out) (l .i) byte ∙ l .inv .2,
@@ -104,7 +103,7 @@ same-length-2 c = c .before .before .before .before .before .before .loop .inv .
 
 -- src/lib.rt:485:17
 returns-2 : tie.Need-returns-2 Inv-loop μ-loop
-returns-2 c = 
+returns-2 c =
     let a = c .before .before .before .before .before .before .before .before .before .args in
     let l = c .before .before .before .before .before .before .loop in
     let s = now (a .body) in
@@ -112,7 +111,7 @@ returns-2 c =
     let pos : 0 < n = omega arith in
     let byte = getD s (l .at) 0 in
     let e = from-at s (l .at) (c .before .before .before .before .if1 .left) in
-    l .inv .4 ∙ ap (glue (take (l .i) (l .out))) (rows-past (drop (l .at) s) (drop (l .at + 1) s) byte e n (l .lit)  pos (c .before .before .if2 .left) (plan-past-literals n byte (c .before .if3 .taken) (c .if4 .taken)))
+    l .inv .4 ∙ ap (glue (take (l .i) (l .out))) (rows-past (drop (l .at) s) (drop (l .at + 1) s) byte e n (l .lit) pos (c .before .before .if2 .left) (plan-past-literals n byte (c .before .if3 .taken) (c .if4 .taken)))
 
 -- src/lib.rt:471:5
 loop-less-2 : tie.Need-loop-less-2 Inv-loop μ-loop
@@ -120,15 +119,14 @@ loop-less-2 c = omega arith
 
 -- src/lib.rt:471:5
 loop-again-2 : tie.Need-loop-again-2 Inv-loop μ-loop
-loop-again-2 c = 
+loop-again-2 c =
     let a = c .before .before .before .before .before .before .before .before .before .args in
     let l = c .before .before .before .before .before .before .loop in
     let s = now (a .body) in
     let n = a .h - l .i in
     let pos : 0 < n = omega arith in
     let byte = getD s (l .at) 0 in
-    let e = from-at s (l .at) (c .before .before .before .before .if1 .left) in
-    (
+    let e = from-at s (l .at) (c .before .before .before .before .if1 .left) in (
       omega arith,
       omega arith,
       l .inv .2,
@@ -150,7 +148,7 @@ same-length-3 c = c .before .before .before .before .before .before .loop .inv .
 
 -- src/lib.rt:492:17
 returns-3 : tie.Need-returns-3 Inv-loop μ-loop
-returns-3 c = 
+returns-3 c =
     let a = c .before .before .before .before .before .before .before .before .before .args in
     let l = c .before .before .before .before .before .before .loop in
     let s = now (a .body) in
@@ -158,7 +156,7 @@ returns-3 c =
     let pos : 0 < n = omega arith in
     let byte = getD s (l .at) 0 in
     let e = from-at s (l .at) (c .before .before .before .before .if1 .left) in
-    l .inv .4 ∙ ap (glue (take (l .i) (l .out))) (rows-past (drop (l .at) s) (drop (l .at + 1) s) byte e n (l .lit)  pos (c .before .before .if2 .left) (plan-past-copies n byte (c .before .if3 .left) (c .if5 .taken)))
+    l .inv .4 ∙ ap (glue (take (l .i) (l .out))) (rows-past (drop (l .at) s) (drop (l .at + 1) s) byte e n (l .lit) pos (c .before .before .if2 .left) (plan-past-copies n byte (c .before .if3 .left) (c .if5 .taken)))
 
 -- src/lib.rt:495:17
 same-length-4 : tie.Need-same-length-4 Inv-loop μ-loop
@@ -166,7 +164,7 @@ same-length-4 c = c .before .before .before .before .before .before .before .loo
 
 -- src/lib.rt:495:17
 returns-4 : tie.Need-returns-4 Inv-loop μ-loop
-returns-4 c = 
+returns-4 c =
     let a = c .before .before .before .before .before .before .before .before .before .before .args in
     let l = c .before .before .before .before .before .before .before .loop in
     let s = now (a .body) in
@@ -175,7 +173,7 @@ returns-4 c =
     let byte = getD s (l .at) 0 in
     let e = from-at s (l .at) (c .before .before .before .before .before .if1 .left) in
     l .inv .4 ∙ ap (glue (take (l .i) (l .out))) ((rows-op (drop (l .at) s) (drop (l .at + 1) s) byte e n (l .lit) (copies (byte - 0x80)) pos (c .before .before .before .if2 .left) (plan-copies n byte (c .before .before .if3 .left) (c .before .if5 .left)))
-        ∙ rows-end (drop (l .at + 1) s) n (copies (byte - 0x80)) pos (drop-of-length-le s (c .if6 .taken)))
+    ∙ rows-end (drop (l .at + 1) s) n (copies (byte - 0x80)) pos (drop-of-length-le s (c .if6 .taken)))
 
 -- src/lib.rt:497:29
 shared-slice-read-fill : tie.Need-shared-slice-read-fill Inv-loop μ-loop
@@ -199,7 +197,7 @@ loop-less-3 c = omega arith
 
 -- src/lib.rt:471:5
 loop-again-3 : tie.Need-loop-again-3 Inv-loop μ-loop
-loop-again-3 c = 
+loop-again-3 c =
     let a = c .before .before .before .before .before .before .before .before .before .before .before .before .before .before .before .args in
     let l = c .before .before .before .before .before .before .before .before .before .before .before .before .loop in
     let s = now (a .body) in
@@ -213,8 +211,7 @@ loop-again-3 c =
     let left : n - m ≡ a .h - (l .i + m) = omega arith in
     let none : 0 ≡ l .lit = omega arith in
     let end = c .before .before .fill .last .0 in
-    let t = drop (l .at + 1 + 1) s in
-    (
+    let t = drop (l .at + 1 + 1) s in (
       omega arith,
       omega arith,
       c .before .before .fill .kept .0 ∙ l .inv .2,
@@ -234,7 +231,7 @@ same-length-5 c = c .before .loop .inv .2
 
 -- src/lib.rt:464:1
 returns-5 : tie.Need-returns-5 Inv-loop μ-loop
-returns-5 c = 
+returns-5 c =
     let l = c .before .loop in
     let done : l .i ≡ c .before .before .before .before .args .h = le-antisymm (l .inv .0) (c .loop-test .left) in
     rows-all _ _ _ _ _ _ _ done (l .inv .4) (l .inv .3)

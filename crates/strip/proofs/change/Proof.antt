@@ -46,14 +46,14 @@ enum-told c = search needs
 
 -- src/lib.rt:162:1
 returns : tie.Need-returns
-returns c = 
+returns c =
     let a = c .before .before .before .before .before .before .before .args in
     let e = told _ _ (c .before .before .before .d .given .1) (c .before .before .before .before .before .bits .ensures) in
     went-from (now (a .body)) (c .run .result) (ap (changeOp (a .colour) (a .step)) (e .0) ∙ change-run (a .colour) (a .step) _ (rest (now (a .body)) (c .before .before .before .d .given .0 .1 .0)) (c .before .if1 .taken)) (c .run .ensures)
 
 -- src/lib.rt:162:1
 returns-2 : tie.Need-returns-2
-returns-2 c = 
+returns-2 c =
     let a = c .before .before .before .before .before .before .before .before .args in
     let e = told _ _ (c .before .before .before .before .d .given .1) (c .before .before .before .before .before .before .bits .ensures) in
     let d = c .before .before .before .before .d .given .0 .0 in

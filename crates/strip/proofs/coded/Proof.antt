@@ -59,7 +59,7 @@ place-requires c κs = search needs
 
 -- src/lib.rt:407:1
 returns-2 : tie.Need-returns-2
-returns-2 c = 
+returns-2 c =
     let a = c .before .before .before .before .before .before .before .before .before .before .before .args in
     let s = now (a .body) in
     let new = c .before .before .before .before .before .before .new in
@@ -74,7 +74,7 @@ same-length c = search needs
 
 -- src/lib.rt:407:1
 returns-3 : tie.Need-returns-3
-returns-3 c = 
+returns-3 c =
     let a = c .before .before .before .before .before .before .before .before .before .before .before .before .before .before .before .args in
     let s = now (a .body) in
     let new = c .before .before .before .before .before .before .before .before .before .before .new in

@@ -66,14 +66,14 @@ enum-told-2 c = search needs
 
 -- src/lib.rt:184:1
 returns : tie.Need-returns
-returns c = 
+returns c =
     let a = c .before .before .before .before .before .before .args in
     let e = told-bit _ _ (c .before .next .given .1) (c .before .before .before .bit .ensures) in
     (ap (opOf (a .second) (a .w) (a .st .colour) (a .st .step)) (e .0), e .1)
 
 -- src/lib.rt:184:1
 returns-2 : tie.Need-returns-2
-returns-2 c = 
+returns-2 c =
     let a = c .before .before .before .before .before .before .before .before .before .before .before .args in
     let e = told-bit _ _ (c .before .before .before .before .before .before .one .given .1) (c .before .before .before .before .before .before .before .before .bit .ensures) in
     let f = told-bit _ _ (c .before .before .next2 .given .1) (c .before .before .before .before .bit2 .ensures) in
@@ -81,7 +81,7 @@ returns-2 c =
 
 -- src/lib.rt:184:1
 returns-3 : tie.Need-returns-3
-returns-3 c = 
+returns-3 c =
     let a = c .before .before .before .before .before .before .before .before .before .before .before .before .args in
     let e = told-bit _ _ (c .before .before .before .before .before .before .before .one .given .1) (c .before .before .before .before .before .before .before .before .before .bit .ensures) in
     let f = told-bit _ _ (c .before .before .before .next3 .given .1) (c .before .before .before .before .before .bit2 .ensures) in
@@ -89,7 +89,7 @@ returns-3 c =
 
 -- src/lib.rt:184:1
 returns-4 : tie.Need-returns-4
-returns-4 c = 
+returns-4 c =
     let a = c .before .before .before .before .before .before .before .before .before .before .before .before .args in
     let e = told-bit _ _ (c .before .before .before .before .before .before .before .one .given .1) (c .before .before .before .before .before .before .before .before .before .bit .ensures) in
     let f = told-bit _ _ (c .before .before .before .next3 .given .1) (c .before .before .before .before .before .bit2 .ensures) in
@@ -97,7 +97,7 @@ returns-4 c =
 
 -- src/lib.rt:184:1
 returns-5 : tie.Need-returns-5
-returns-5 c = 
+returns-5 c =
     let a = c .before .before .before .before .before .before .before .before .before .args in
     let e = told-bit _ _ (c .before .before .before .before .one .given .1) (c .before .before .before .before .before .before .bit .ensures) in
     let f = told-bit _ _ (c .enum-told .given .1) (c .before .before .bit2 .ensures) in
@@ -105,7 +105,7 @@ returns-5 c =
 
 -- src/lib.rt:184:1
 returns-6 : tie.Need-returns-6
-returns-6 c = 
+returns-6 c =
     let a = c .before .before .before .before .before .args in
     ap (opOf (a .second) (a .w) (a .st .colour) (a .st .step)) (told-bit _ _ (c .enum-told2 .given .1) (c .before .before .bit .ensures))
 

@@ -26,14 +26,14 @@ use Rattle.strip.proofs.advance.Reads as advance-reads
 abbrev Inv-loop : tie.InvT-loop
 Inv-loop body second w total out₀ st₀ i₀ out st i =
     (i ≤ total) × Held (st .cur) × (length out ≡ length out₀) × (drop i out ≡ drop i out₀)
-        × (decode second w total (st₀ .left) (st₀ .colour) (st₀ .step) (rest body (st₀ .cur)) ≡ glue (take i out) (decode second w (total - i) (st .left) (st .colour) (st .step) (rest body (st .cur))))
+    × (decode second w total (st₀ .left) (st₀ .colour) (st₀ .step) (rest body (st₀ .cur)) ≡ glue (take i out) (decode second w (total - i) (st .left) (st .colour) (st .step) (rest body (st .cur))))
 
 abbrev μ-loop : tie.MeasureT-loop
 μ-loop body second w total out₀ st₀ i₀ out st i = total - i
 
 -- src/lib.rt:246:5
 loop-holds : tie.Need-loop-holds Inv-loop μ-loop
-loop-holds c = 
+loop-holds c =
     let a = c .before .before .args in
     (zero-le, c .before .before .pre .0, refl, refl, glue-none _ ∙ ap (λ (n : ℕ). glue [] (decode (a .second) (a .w) n (a .from .left) (a .from .colour) (a .from .step) (rest (now (a .body)) (a .from .cur)))) (sym (sub-zero (a .total))))
 
@@ -67,7 +67,7 @@ loop-less c = omega arith
 
 -- src/lib.rt:246:5
 loop-again : tie.Need-loop-again Inv-loop μ-loop
-loop-again c = 
+loop-again c =
     let a = c .before .before .before .before .before .before .before .before .args in
     let l = c .before .before .before .before .before .loop in
     let i = l .i in
@@ -75,8 +75,7 @@ loop-again c =
     let e = told-next _ _ (c .before .to .given .1) (c .before .before .before .advance .ensures) in
     let more : a .total - i ≡ suc (a .total - i - 1) = omega arith in
     let next : a .total - i - 1 ≡ a .total - (i + 1) = omega arith in
-    let room : i < length (l .out) = omega (arith, l .inv .2) in
-    (
+    let room : i < length (l .out) = omega (arith, l .inv .2) in (
       omega arith,
       e .1,
       length-set (l .out) i (to .colour) ∙ l .inv .2,
@@ -97,7 +96,7 @@ same-length c = c .before .before .before .before .before .loop .inv .2
 
 -- src/lib.rt:254:17
 returns : tie.Need-returns Inv-loop μ-loop
-returns c = 
+returns c =
     let a = c .before .before .before .before .before .before .before .before .args in
     let l = c .before .before .before .before .before .loop in
     let e = told-next _ _ (c .before .n .given .1) (c .before .before .before .advance .ensures) in
@@ -110,7 +109,7 @@ same-length-2 c = c .before .loop .inv .2
 
 -- src/lib.rt:240:1
 returns-2 : tie.Need-returns-2 Inv-loop μ-loop
-returns-2 c = 
+returns-2 c =
     let a = c .before .before .before .before .args in
     let l = c .before .loop in
     let done : l .i ≡ a .total = le-antisymm (l .inv .0) (c .loop-test .left) in

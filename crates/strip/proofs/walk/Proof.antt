@@ -42,7 +42,7 @@ enum-told c = search needs
 
 -- src/lib.rt:121:1
 returns : tie.Need-returns
-returns c = 
+returns c =
     let a = c .before .before .before .before .before .before .args in
     let f = c .before .before .before .before .before .before .fits in
     let e = told-bit _ _ (c .before .before .next .given .1) (c .before .before .before .before .bit .ensures) in
@@ -51,7 +51,7 @@ returns c =
 
 -- src/lib.rt:121:1
 returns-2 : tie.Need-returns-2
-returns-2 c = 
+returns-2 c =
     let a = c .before .before .before .before .before .before .before .args in
     let f = c .before .before .before .before .before .before .before .fits in
     let e = told-bit _ _ (c .before .before .before .next2 .given .1) (c .before .before .before .before .before .bit .ensures) in

@@ -42,7 +42,7 @@ shl-more c = search needs
 
 -- src/lib.rt:57:24
 add-more : tie.Need-add-more
-add-more c = 
+add-more c =
     let a = c .before .before .before .args in
     let held = c .before .before .before .pre .0 in
     rw (byte-up _ _ (held .few) (c .shared-slice-known .given (a .self .at))) (record { fits = more-fits (a .self) _ held (c .shared-slice-known .given (a .self .at)) })
@@ -73,7 +73,7 @@ shr-t23 c = search needs
 
 -- src/lib.rt:38:5
 returns-2 : tie.Need-returns-2
-returns-2 c = 
+returns-2 c =
     let a = c .before .before .before .args in
     let le : a .n ≤ 8 = search needs in
     let held = c .before .before .before .pre .0 in
