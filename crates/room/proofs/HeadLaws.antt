@@ -1,0 +1,145 @@
+-- Laws of a room's head: where the needed blocks lie, and what holds of a room without the refusals 1 to 3.
+use mathlib.Core.Path.{_≡_, refl, sym, ap, _∙_, subst⁻¹}
+use mathlib.Core.List.{List}
+use mathlib.Core.Bool.{Bool, true, false, _&&_, cond}
+use Prim.Native.Nat.{ℕ, _+_, _%_, _≤_}
+use native.Mathlib.Omega.{arith}
+use borrow.Author.Tests.{leb-true, eqb-true}
+use lib.ListN.{length}
+use lib.Dec.{leb, eqb}
+use Rattle.block.specs.Tag.{tag-RMHD, tag-RMIM, tag-RMIH, tag-IM00, tag-SMAP}
+use Rattle.block.specs.Tree.{wellFormed, needTag, findTag}
+use Rattle.block.specs.declared.Found.{Found}
+use Rattle.block.specs.declared.Found.the-variants.{At, Missing}
+use Rattle.block.proofs.Laws.{need-at, nth-at, and-left, and-right}
+use Rattle.room.specs.Head.{orMissing, backgroundIn, neededIn, objectsRight, sizesRight, roomOf, sized, headIn, headOf, Sound}
+use Rattle.room.specs.declared.Parts.{Parts}
+use Rattle.room.specs.declared.Needed.{Needed}
+use Rattle.room.specs.declared.Needed.the-variants as needed
+use Rattle.room.specs.declared.Room.{Room}
+use Rattle.room.specs.declared.Tested.{Tested}
+use Rattle.room.specs.declared.Tested.the-variants.{Right, Refused}
+
+-- what holds of Missing, and of each way on, holds of the whole
+or-missing : (P : Needed → Type 0) → P needed.Missing → (f : Found) (next : ℕ → ℕ → Needed) → ((a z : ℕ) → At a z ≡ f → P (next a z)) → P (orMissing f next)
+or-missing P m (At a z) next h = h a z refl
+or-missing P m Missing next h = m
+
+-- where the needed blocks lie
+pub record Lies (s : List ℕ) (p : Parts) : Type 0 where
+  pub header-in : p .header + 6 ≤ length s
+  pub counts-in : p .«image_header» + 2 ≤ length s
+  pub image-in : p .image ≤ p .«image_end»
+  pub image-last : p .«image_end» ≤ length s
+  pub smap-in : p .smap + 8 ≤ p .«smap_end»
+  pub smap-last : p .«smap_end» ≤ length s
+
+module _ (s : List ℕ) where
+  abbrev AllLie : Needed → Type 0
+  AllLie (needed.All p) = Lies s p
+  AllLie needed.Missing = Unit {0}
+
+  background-lies : (hd im e : ℕ) → hd + 6 ≤ length s → e ≤ length s → AllLie (backgroundIn s hd im e)
+  unfolding backgroundIn
+  background-lies hd im e h le =
+      or-missing AllLie tt (needTag tag-RMIH 2 s im e) _ λ ih ih-end h₁.
+      or-missing AllLie tt (needTag tag-IM00 0 s im e) _ λ bg bg-end h₂.
+      or-missing AllLie tt (findTag tag-SMAP s bg bg-end) _ λ sm sm-end h₃.
+      let i₁ = need-at _ _ _ _ _ _ _ h₁ in
+      let i₂ = need-at _ _ _ _ _ _ _ h₂ in
+      let i₃ = nth-at _ _ _ _ _ _ _ h₃ in
+      record {
+        header-in = h;
+        counts-in = omega arith;
+        image-in = omega arith;
+        image-last = omega arith;
+        smap-in = omega arith;
+        smap-last = omega arith;
+      }
+
+  needed-lies : AllLie (neededIn s)
+  unfolding neededIn
+  needed-lies =
+      or-missing AllLie tt (needTag tag-RMHD 6 s 8 (length s)) _ λ hd hd-end h₁.
+      or-missing AllLie tt (needTag tag-RMIM 0 s 8 (length s)) _ λ im im-end h₂.
+      let i₁ = need-at _ _ _ _ _ _ _ h₁ in
+      let i₂ = need-at _ _ _ _ _ _ _ h₂ in
+      background-lies hd im im-end (omega arith) (omega arith)
+
+  pub parts-lie : (p : Parts) → needed.All p ≡ neededIn s → Lies s p
+  parts-lie p h = subst⁻¹ AllLie h needed-lies
+
+-- a conjunction's last part, and what is before it
+module _ (w h n objects : ℕ) (all : sizesRight w h n objects ≡ true) where
+  pub sizes-hold : (w % 8 ≡ 0) × (8 ≤ w) × (w ≤ 1024) × (1 ≤ h) × (h ≤ 200) × (n ≤ 4) × (objects ≤ 128)
+  unfolding sizesRight
+  sizes-hold =
+      let a₁ = eqb (w % 8) 0 in
+      let a₂ = a₁ && leb 8 w in
+      let a₃ = a₂ && leb w 1024 in
+      let a₄ = a₃ && leb 1 h in
+      let a₅ = a₄ && leb h 200 in
+      let a₆ = a₅ && leb n 4 in
+      let t₆ = and-left a₆ (leb objects 128) all in
+      let t₅ = and-left a₅ (leb n 4) t₆ in
+      let t₄ = and-left a₄ (leb h 200) t₅ in
+      let t₃ = and-left a₃ (leb 1 h) t₄ in
+      let t₂ = and-left a₂ (leb w 1024) t₃ in
+      (
+        eqb-true _ _ (and-left a₁ (leb 8 w) t₂),
+        leb-true _ _ (and-right a₁ (leb 8 w) t₂),
+        leb-true _ _ (and-right a₂ (leb w 1024) t₃),
+        leb-true _ _ (and-right a₃ (leb 1 h) t₄),
+        leb-true _ _ (and-right a₄ (leb h 200) t₅),
+        leb-true _ _ (and-right a₅ (leb n 4) t₆),
+        leb-true _ _ (and-right a₆ (leb objects 128) all),
+      )
+
+-- a room without the refusals 1 to 3 is sound
+module _ (s : List ℕ) where
+  abbrev AllSound : Tested → Type 0
+  AllSound (Right r) = Sound s r
+  AllSound (Refused n) = Unit {0}
+
+  sound-of : (r : Room) (q : Bool) → sizesRight (r .width) (r .height) (r .planes) (r .objects) ≡ q
+      → r .image ≤ r .«image_end» → r .«image_end» ≤ length s → r .smap + 8 ≤ r .«smap_end» → r .«smap_end» ≤ length s
+      → AllSound (cond q (Right r) (Refused 3))
+  sound-of r true e a b c d =
+      let z = sizes-hold (r .width) (r .height) (r .planes) (r .objects) e in
+      record {
+        whole = z .0;
+        narrowest = z .1;
+        widest = z .2;
+        lowest = z .3;
+        highest = z .4;
+        few = z .5;
+        counted = z .6;
+        image-in = a;
+        image-last = b;
+        smap-in = c;
+        smap-last = d;
+      }
+  sound-of r false e a b c d = tt
+
+  sized-sound : (p : Parts) → Lies s p → AllSound (sized (roomOf s p))
+  unfolding sized roomOf
+  sized-sound p lies = sound-of (roomOf s p) _ refl (lies .image-in) (lies .image-last) (lies .smap-in) (lies .smap-last)
+
+  in-sound : (f : Needed) → f ≡ neededIn s → (q : Bool) → AllSound (headIn s f)
+  in-sound (needed.All p) e q = go (objectsRight s)
+    where
+      go : (q : Bool) → AllSound (cond q (sized (roomOf s p)) (Refused 2))
+      go true = sized-sound p (parts-lie s p e)
+      go false = tt
+  in-sound needed.Missing e q = tt
+
+  head-holds : AllSound (headOf s)
+  unfolding headOf
+  head-holds = go (wellFormed s)
+    where
+      go : (q : Bool) → AllSound (cond q (headIn s (neededIn s)) (Refused 1))
+      go true = in-sound (neededIn s) refl true
+      go false = tt
+
+  pub head-sound : (r : Room) → Right r ≡ headOf s → Sound s r
+  head-sound r h = subst⁻¹ AllSound h head-holds

@@ -1,0 +1,85 @@
+-- What a room must hold: refusals 1 to 3 in that order (document 01, "Sizes", "Numbered refusals", "Blocks").
+use Prim.Native.Nat.{ℕ, _+_, _%_, _≤_, _<_}
+use mathlib.Core.Path.{_≡_}
+use mathlib.Core.List.{List}
+use mathlib.Core.Bool.{Bool, true, false, _&&_, cond}
+use lib.ListN.{length}
+use lib.Dec.{leb, eqb}
+use Rattle.number.specs.Number.{le16}
+use Rattle.block.specs.Tag.{tag-RMHD, tag-RMIM, tag-RMIH, tag-IM00, tag-SMAP, tag-OBCD, tag-CDHD, tag-OBIM, tag-IMHD}
+use Rattle.block.specs.Tree.{wellFormed, needTag, findTag, countTag, eachHas}
+use Rattle.block.specs.declared.Found.{Found}
+use Rattle.block.specs.declared.Found.the-variants.{At, Missing}
+use Rattle.room.specs.declared.Parts.{Parts}
+use Rattle.room.specs.declared.Needed.{Needed}
+use Rattle.room.specs.declared.Needed.the-variants as needed
+use Rattle.room.specs.declared.Room.{Room}
+use Rattle.room.specs.declared.Tested.{Tested}
+use Rattle.room.specs.declared.Tested.the-variants.{Right, Refused}
+
+-- on with the place of a block, where it was found
+abbrev pub orMissing : Found → (ℕ → ℕ → Needed) → Needed
+orMissing (At a z) next = next a z
+orMissing Missing next = needed.Missing
+
+-- in RMIM's payload [im, e): RMIH with its u16, and IM00 with SMAP; hd is RMHD's payload
+unfoldable pub backgroundIn : List ℕ → (hd im e : ℕ) → Needed
+backgroundIn s hd im e =
+    orMissing (needTag tag-RMIH 2 s im e) λ ih ih-end.
+    orMissing (needTag tag-IM00 0 s im e) λ bg bg-end.
+    orMissing (findTag tag-SMAP s bg bg-end) λ sm sm-end.
+    needed.All (record { header = hd; «image_header» = ih; image = bg; «image_end» = bg-end; smap = sm; «smap_end» = sm-end; })
+
+-- the room's needed blocks: RMHD with its three u16, and RMIM with the background
+unfoldable pub neededIn : List ℕ → Needed
+neededIn s =
+    orMissing (needTag tag-RMHD 6 s 8 (length s)) λ hd hd-end.
+    orMissing (needTag tag-RMIM 0 s 8 (length s)) λ im im-end.
+    backgroundIn s hd im im-end
+
+-- each OBCD has CDHD (13 bytes), and each OBIM has IMHD (first 16 bytes)
+unfoldable pub objectsRight : List ℕ → Bool
+objectsRight s = eachHas tag-OBCD tag-CDHD 13 s 8 (length s) && eachHas tag-OBIM tag-IMHD 16 s 8 (length s)
+
+-- width a multiple of 8, 8 to 1,024; height 1 to 200; planes 0 to 4; objects 0 to 128
+unfoldable pub sizesRight : (w h n objects : ℕ) → Bool
+sizesRight w h n objects = eqb (w % 8) 0 && leb 8 w && leb w 1024 && leb 1 h && leb h 200 && leb n 4 && leb objects 128
+
+-- what RMHD and RMIH say, with the OBCD blocks counted
+unfoldable pub roomOf : List ℕ → Parts → Room
+roomOf s p =
+    record {
+      width = le16 s (p .header);
+      height = le16 s (p .header + 2);
+      planes = le16 s (p .«image_header»);
+      objects = countTag tag-OBCD s 8 (length s);
+      image = p .image;
+      «image_end» = p .«image_end»;
+      smap = p .smap;
+      «smap_end» = p .«smap_end»;
+    }
+
+unfoldable pub sized : Room → Tested
+sized r = cond (sizesRight (r .width) (r .height) (r .planes) (r .objects)) (Right r) (Refused 3)
+
+abbrev pub headIn : List ℕ → Needed → Tested
+headIn s (needed.All p) = cond (objectsRight s) (sized (roomOf s p)) (Refused 2)
+headIn s needed.Missing = Refused 2
+
+-- refusals 1, 2 and 3 of a room, in that order, or its sizes and where its picture stands
+unfoldable pub headOf : List ℕ → Tested
+headOf s = cond (wellFormed s) (headIn s (neededIn s)) (Refused 1)
+
+-- what holds of a room that has none of the refusals 1 to 3
+pub record Sound (s : List ℕ) (r : Room) : Type 0 where
+  pub whole : r .width % 8 ≡ 0
+  pub narrowest : 8 ≤ r .width
+  pub widest : r .width ≤ 1024
+  pub lowest : 1 ≤ r .height
+  pub highest : r .height ≤ 200
+  pub few : r .planes ≤ 4
+  pub counted : r .objects ≤ 128
+  pub image-in : r .image ≤ r .«image_end»
+  pub image-last : r .«image_end» ≤ length s
+  pub smap-in : r .smap + 8 ≤ r .«smap_end»
+  pub smap-last : r .«smap_end» ≤ length s
