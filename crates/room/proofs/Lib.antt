@@ -1,1 +1,4 @@
 pub mod HeadLaws
+pub mod TestLaws
+pub mod ObjectLaws
+pub mod NameLaws

@@ -1,0 +1,72 @@
+-- `paint::paint_background` meets its contract.
+use mathlib.Core.Path.{_≡_, refl}
+use Prim.Native.Nat.{_+_, _-_, _*_, _≤_}
+use native.Mathlib.Omega.{arith}
+use denote.Ref.{now}
+use lib.ListN.{length}
+use Rattle.grid.specs.Grid.{upd, boxed}
+use Rattle.grid.proofs.Box.{box-thin, box-beside}
+use Rattle.table.specs.Body.{pixelAt}
+use Rattle.paint.proofs.BlockLaws.{block-table, block-strip}
+use Rattle.paint.proofs.paint_background.Statement.{statement}
+use Rattle.paint.proofs.paint_background.Tie as tie
+
+abbrev Inv-loop : tie.InvT-loop
+Inv-loop room n h b z pixels₀ k₀ pixels k =
+    (pixels ≡ upd (boxed (8 * n) 0 0 (8 * k) h (λ x y o. pixelAt n h room b z x y)) pixels₀) × (k ≤ n) × (length pixels ≡ length pixels₀)
+
+abbrev μ-loop : tie.MeasureT-loop
+μ-loop room n h b z pixels₀ k₀ pixels k = n - k
+
+loop-holds : tie.Need-loop-holds Inv-loop μ-loop
+loop-holds c = (box-thin _ _ _ _ _ _, omega arith, refl)
+
+paint-strip-requires : tie.Need-paint-strip-requires Inv-loop μ-loop
+paint-strip-requires c κs =
+    let passed = c .before .before .before .before .before .pre .1 .0 in (
+      (omega arith, omega arith, omega arith, omega arith, omega arith),
+      (block-table _ _ _ _ _ _ passed, (block-strip _ _ _ _ _ _ passed _ (c .before .loop-test .taken), omega arith)),
+    )
+
+add-k : tie.Need-add-k Inv-loop μ-loop
+add-k c = omega arith
+
+loop-less : tie.Need-loop-less Inv-loop μ-loop
+loop-less c = omega arith
+
+loop-again : tie.Need-loop-again Inv-loop μ-loop
+loop-again c =
+    let head = c .before .before .before .before .before in
+    let a = head .before .before .before .args in
+    let k = head .loop .k in
+    let wider : 8 * k + 8 ≡ 8 * (k + 1) = omega arith in (
+      rw wider at
+          (box-beside _ 0 (8 * k) 0 _ _ _ (λ x y o. pixelAt (a .n) (a .h) (now (a .room)) (a .b) (a .z) x y) _ _ _ _ (omega arith)
+          (λ x y o lx ly. refl)
+          (head .loop .inv .0)
+          (c .before .before .paint-strip .ensures)),
+      omega arith,
+      omega arith,
+    )
+
+same-length : tie.Need-same-length Inv-loop μ-loop
+same-length c = omega arith
+
+returns : tie.Need-returns Inv-loop μ-loop
+returns c =
+    let all : c .before .loop .k ≡ c .before .before .before .before .args .n = omega arith in
+    rw all at (c .before .loop .inv .0)
+
+pub paint-background-spec : {M : Type 1} → statement M
+paint-background-spec =
+    tie.close
+    (tie.spec
+    Inv-loop
+    μ-loop
+    loop-holds
+    paint-strip-requires
+    add-k
+    loop-less
+    loop-again
+    same-length
+    returns)

@@ -1,0 +1,44 @@
+-- `paint::paint_rows` meets its contract.
+use denote.Ref.{now}
+use native.Mathlib.Nat.{add-zero}
+use borrow.Author.Needs.{needs}
+use Rattle.paint.proofs.BoxLaws.{box-same}
+use Rattle.paint.proofs.CellLaws.{read-row}
+use Rattle.paint.proofs.paint_rows.Statement.{statement}
+use Rattle.paint.proofs.paint_rows.Tie as tie
+
+slice-aggregate-read-rows : tie.Need-slice-aggregate-read-rows
+slice-aggregate-read-rows c = search needs
+
+read-rows-requires : tie.Need-read-rows-requires
+read-rows-requires c κs = search needs
+
+slice-aggregate-put-rows : tie.Need-slice-aggregate-put-rows
+slice-aggregate-put-rows c = search needs
+
+put-rows-requires : tie.Need-put-rows-requires
+put-rows-requires c κs = search needs
+
+same-length : tie.Need-same-length
+same-length c = search needs
+
+returns : tie.Need-returns
+returns c =
+    let after = c .before .before .before .before .before .before in
+    let start = after .before .before .before .before in
+    let a = start .args in
+    let read = after .read-rows in
+    box-same _ _ _ _ _ _ _ _ _
+    (λ x r o lx lr. read-row (a .n) (a .h) (now (a .room)) (a .b) (a .z) (a .k) _ _ (read .result) (start .pre .1 .1 .0) (read .ensures) r lr)
+    (rw add-zero at (c .before .before .put-rows .ensures))
+
+pub paint-rows-spec : {M : Type 1} → statement M
+paint-rows-spec =
+    tie.close
+    (tie.spec
+    slice-aggregate-read-rows
+    read-rows-requires
+    slice-aggregate-put-rows
+    put-rows-requires
+    same-length
+    returns)

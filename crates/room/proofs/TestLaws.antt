@@ -1,0 +1,42 @@
+-- Laws of the whole test: what holds of a room that passes it.
+use mathlib.Core.Path.{_≡_, refl, sym, ap, _∙_, subst⁻¹}
+use mathlib.Core.List.{List}
+use mathlib.Core.Bool.{Bool, true, false, cond}
+use Prim.Native.Nat.{ℕ}
+use Rattle.table.specs.declared.Test.{Test}
+use Rattle.table.specs.declared.Test.the-variants as test
+use Rattle.room.specs.Head.{headOf, Sound}
+use Rattle.room.specs.Test.{picturesTest, short, orRefused, afterHead, roomTest}
+use Rattle.room.specs.declared.Lent.{Lent}
+use Rattle.room.specs.declared.Room.{Room}
+use Rattle.room.specs.declared.Tested.{Tested}
+use Rattle.room.specs.declared.Tested.the-variants.{Right, Refused}
+use Rattle.room.proofs.HeadLaws.{head-sound}
+
+-- a room that passes is sound, nothing lent is too short, and its pictures pass
+pub record Passes (lent : Lent) (s : List ℕ) (r : Room) : Type 0 where
+  pub sound : Sound s r
+  pub enough : short lent r ≡ false
+  pub pictures : picturesTest s r ≡ test.Passed
+
+module _ (lent : Lent) (s : List ℕ) where
+  abbrev Result : Tested → Type 0
+  Result (Right r) = Passes lent s r
+  Result (Refused n) = Unit {0}
+
+  pictures-pass : (r : Room) → Sound s r → short lent r ≡ false → (t : Test) → picturesTest s r ≡ t → Result (orRefused t r)
+  pictures-pass r sound enough test.Passed e = record { sound = sound; enough = enough; pictures = e }
+  pictures-pass r sound enough (test.Refused n) e = tt
+
+  head-passes : (h : Tested) → h ≡ headOf s → Result (afterHead lent s h)
+  unfolding afterHead
+  head-passes (Right r) e = go (short lent r) refl
+    where
+      go : (q : Bool) → short lent r ≡ q → Result (cond q (Refused 4) (orRefused (picturesTest s r) r))
+      go true f = tt
+      go false f = pictures-pass r (head-sound s r e) f (picturesTest s r) refl
+  head-passes (Refused n) e = tt
+
+  pub test-passes : (r : Room) → Right r ≡ roomTest lent s → Passes lent s r
+  unfolding roomTest
+  test-passes r h = subst⁻¹ Result h (head-passes (headOf s) refl)
