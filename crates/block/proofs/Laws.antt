@@ -249,6 +249,11 @@ pub formed-long : (s : List ℕ) → wellFormed s ≡ true → 8 ≤ length s
 unfolding wellFormed
 formed-long s h = leb-true 8 (length s) (and-right (leb (length s) 1048576) _ (and-left _ _ (and-left _ _ (and-left _ (blockOk 6 s 0 (length s)) h))))
 
+-- and is not over the size
+pub formed-small : (s : List ℕ) → wellFormed s ≡ true → length s ≤ 1048576
+unfolding wellFormed
+formed-small s h = leb-true (length s) 1048576 (and-left (leb (length s) 1048576) _ (and-left _ _ (and-left _ _ (and-left _ (blockOk 6 s 0 (length s)) h))))
+
 pub not-not : (b c : Bool) → b ≡ not c → b ≡ false → c ≡ true
 not-not b true h g = refl
 not-not b false h g = absurd (true≢false (sym h ∙ g))

@@ -11,7 +11,7 @@ use Rattle.block.specs.Tag.{tag-RMHD, tag-RMIM, tag-RMIH, tag-IM00, tag-SMAP}
 use Rattle.block.specs.Tree.{wellFormed, needTag, findTag}
 use Rattle.block.specs.declared.Found.{Found}
 use Rattle.block.specs.declared.Found.the-variants.{At, Missing}
-use Rattle.block.proofs.Laws.{need-at, nth-at, and-left, and-right}
+use Rattle.block.proofs.Laws.{need-at, nth-at, and-left, and-right, formed-small}
 use Rattle.room.specs.Head.{orMissing, backgroundIn, neededIn, objectsRight, sizesRight, roomOf, sized, headIn, headOf, Sound}
 use Rattle.room.specs.declared.Parts.{Parts}
 use Rattle.room.specs.declared.Needed.{Needed}
@@ -84,8 +84,7 @@ module _ (w h n objects : ℕ) (all : sizesRight w h n objects ≡ true) where
       let t₅ = and-left a₅ (leb n 4) t₆ in
       let t₄ = and-left a₄ (leb h 200) t₅ in
       let t₃ = and-left a₃ (leb 1 h) t₄ in
-      let t₂ = and-left a₂ (leb w 1024) t₃ in
-      (
+      let t₂ = and-left a₂ (leb w 1024) t₃ in (
         eqb-true _ _ (and-left a₁ (leb 8 w) t₂),
         leb-true _ _ (and-right a₁ (leb 8 w) t₂),
         leb-true _ _ (and-right a₂ (leb w 1024) t₃),
@@ -101,12 +100,13 @@ module _ (s : List ℕ) where
   AllSound (Right r) = Sound s r
   AllSound (Refused n) = Unit {0}
 
-  sound-of : (r : Room) (q : Bool) → sizesRight (r .width) (r .height) (r .planes) (r .objects) ≡ q
+  sound-of : length s ≤ 1048576 → (r : Room) (q : Bool) → sizesRight (r .width) (r .height) (r .planes) (r .objects) ≡ q
       → r .image ≤ r .«image_end» → r .«image_end» ≤ length s → r .smap + 8 ≤ r .«smap_end» → r .«smap_end» ≤ length s
       → AllSound (cond q (Right r) (Refused 3))
-  sound-of r true e a b c d =
+  sound-of small r true e a b c d =
       let z = sizes-hold (r .width) (r .height) (r .planes) (r .objects) e in
       record {
+        small = small;
         whole = z .0;
         narrowest = z .1;
         widest = z .2;
@@ -119,27 +119,27 @@ module _ (s : List ℕ) where
         smap-in = c;
         smap-last = d;
       }
-  sound-of r false e a b c d = tt
+  sound-of small r false e a b c d = tt
 
-  sized-sound : (p : Parts) → Lies s p → AllSound (sized (roomOf s p))
+  sized-sound : length s ≤ 1048576 → (p : Parts) → Lies s p → AllSound (sized (roomOf s p))
   unfolding sized roomOf
-  sized-sound p lies = sound-of (roomOf s p) _ refl (lies .image-in) (lies .image-last) (lies .smap-in) (lies .smap-last)
+  sized-sound small p lies = sound-of small (roomOf s p) _ refl (lies .image-in) (lies .image-last) (lies .smap-in) (lies .smap-last)
 
-  in-sound : (f : Needed) → f ≡ neededIn s → (q : Bool) → AllSound (headIn s f)
-  in-sound (needed.All p) e q = go (objectsRight s)
+  in-sound : length s ≤ 1048576 → (f : Needed) → f ≡ neededIn s → AllSound (headIn s f)
+  in-sound small (needed.All p) e = go (objectsRight s)
     where
       go : (q : Bool) → AllSound (cond q (sized (roomOf s p)) (Refused 2))
-      go true = sized-sound p (parts-lie s p e)
+      go true = sized-sound small p (parts-lie s p e)
       go false = tt
-  in-sound needed.Missing e q = tt
+  in-sound small needed.Missing e = tt
 
   head-holds : AllSound (headOf s)
   unfolding headOf
-  head-holds = go (wellFormed s)
+  head-holds = go (wellFormed s) refl
     where
-      go : (q : Bool) → AllSound (cond q (headIn s (neededIn s)) (Refused 1))
-      go true = in-sound (neededIn s) refl true
-      go false = tt
+      go : (q : Bool) → wellFormed s ≡ q → AllSound (cond q (headIn s (neededIn s)) (Refused 1))
+      go true e = in-sound (formed-small s e) (neededIn s) refl
+      go false e = tt
 
   pub head-sound : (r : Room) → Right r ≡ headOf s → Sound s r
   head-sound r h = subst⁻¹ AllSound h head-holds

@@ -18,6 +18,7 @@ use Rattle.room.specs.declared.Tested.{Tested}
 use Rattle.room.specs.declared.Tested.the-variants.{Right, Refused}
 use Rattle.block.proofs.Laws.{Held, need-in}
 use Rattle.room.proofs.ObjectLaws.{object-in}
+use Rattle.room.proofs.TestLaws.{test-passes}
 
 module _ (s : List ℕ) where
   pub nul-end : (n p : ℕ) → n ≡ 0 → p ≡ nulFrom n s p
@@ -59,10 +60,19 @@ module _ (s : List ℕ) where
   part-in (At b z) i = part-nul (b + 8) z (needTag tag-OBNA 0 s (b + 8) z) (omega arith) (need-in tag-OBNA 0 s (b + 8) z)
   part-in Missing i = tt
 
-  part-after : (t : Tested) (k : ℕ) → Part (nameAfter s k t)
-  part-after (Right r) k = part-in (objectBlock s k) (object-in s k)
-  part-after (Refused n) k = tt
+  -- a name that is found lies in a room that is not over the size
+  abbrev Named : Found → Type 0
+  Named (At a z) = (a ≤ z) × (z ≤ length s) × (length s ≤ 1048576)
+  Named Missing = Unit {0}
 
-  pub name-at : (k a z : ℕ) → At a z ≡ namePlace s k → (a ≤ z) × (z ≤ length s)
+  named : (f : Found) → Part f → length s ≤ 1048576 → Named f
+  named (At a z) i small = (i .0, i .1, small)
+  named Missing i small = tt
+
+  named-after : (t : Tested) → t ≡ roomTest nothing s → (k : ℕ) → Named (nameAfter s k t)
+  named-after (Right r) e k = named (nameIn s (objectBlock s k)) (part-in (objectBlock s k) (object-in s k)) (test-passes nothing s r e .sound .small)
+  named-after (Refused n) e k = tt
+
+  pub name-at : (k a z : ℕ) → At a z ≡ namePlace s k → (a ≤ z) × (z ≤ length s) × (length s ≤ 1048576)
   unfolding namePlace
-  name-at k a z h = subst⁻¹ Part h (part-after (roomTest nothing s) k)
+  name-at k a z h = subst⁻¹ Named h (named-after (roomTest nothing s) refl k)

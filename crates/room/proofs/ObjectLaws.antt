@@ -11,7 +11,8 @@ use Rattle.block.specs.Tree.{Inside, nthTag, needTag}
 use Rattle.block.specs.declared.Found.{Found}
 use Rattle.block.specs.declared.Found.the-variants as found
 use Rattle.block.proofs.Laws.{Held, need-in, nth-in}
-use Rattle.room.specs.Test.{roomTest}
+use Rattle.room.specs.Test.{roomTest, fixedOnly}
+use Rattle.room.proofs.TestLaws.{test-passes, fixed-long}
 use Rattle.room.specs.Object.{payloadAt, cdhdIn, objectBlock, placeAfter, headerPlace}
 use Rattle.room.specs.declared.Lent.{Lent}
 use Rattle.room.specs.declared.Tested.{Tested}
@@ -52,3 +53,20 @@ module _ (s : List ℕ) where
   pub place-in : (lent : Lent) (k p : ℕ) → At p ≡ headerPlace lent s k → p + 13 ≤ length s
   unfolding headerPlace
   place-in lent k p h = subst⁻¹ HeaderIn h (place-holds (roomTest lent s) k)
+
+  -- a header that is found was asked for with a buffer that is long enough
+  abbrev Long : ℕ → ℕ → Place → Type 0
+  Long size n (At p) = size ≤ n
+  Long size n (Refused number) = Unit {0}
+
+  long : (size n : ℕ) (q : Place) → size ≤ n → Long size n q
+  long size n (At p) h = h
+  long size n (Refused number) h = tt
+
+  long-after : (size n : ℕ) (t : Tested) → t ≡ roomTest (fixedOnly size n) s → (k : ℕ) → Long size n (placeAfter s k t)
+  long-after size n (tested.Right r) e k = long size n (cdhdIn s (objectBlock s k)) (fixed-long size n r (test-passes (fixedOnly size n) s r e .enough))
+  long-after size n (tested.Refused number) e k = tt
+
+  pub place-long : (size n k p : ℕ) → At p ≡ headerPlace (fixedOnly size n) s k → size ≤ n
+  unfolding headerPlace
+  place-long size n k p h = subst⁻¹ (Long size n) h (long-after size n (roomTest (fixedOnly size n) s) refl k)

@@ -1,12 +1,14 @@
 -- Laws of the whole test: what holds of a room that passes it.
 use mathlib.Core.Path.{_≡_, refl, sym, ap, _∙_, subst⁻¹}
 use mathlib.Core.List.{List}
-use mathlib.Core.Bool.{Bool, true, false, cond}
-use Prim.Native.Nat.{ℕ}
+use mathlib.Core.Bool.{Bool, true, false, cond, _||_, true≢false}
+use Prim.Native.Nat.{ℕ, _≤_}
+use borrow.Author.Tests.{ltb-false}
+use lib.Dec.{ltb}
 use Rattle.table.specs.declared.Test.{Test}
 use Rattle.table.specs.declared.Test.the-variants as test
 use Rattle.room.specs.Head.{headOf, Sound}
-use Rattle.room.specs.Test.{picturesTest, short, orRefused, afterHead, roomTest}
+use Rattle.room.specs.Test.{picturesTest, short, orRefused, afterHead, roomTest, fixedOnly}
 use Rattle.room.specs.declared.Lent.{Lent}
 use Rattle.room.specs.declared.Room.{Room}
 use Rattle.room.specs.declared.Tested.{Tested}
@@ -40,3 +42,12 @@ module _ (lent : Lent) (s : List ℕ) where
   pub test-passes : (r : Room) → Right r ≡ roomTest lent s → Passes lent s r
   unfolding roomTest
   test-passes r h = subst⁻¹ Result h (head-passes (headOf s) refl)
+
+-- a buffer of a fixed size that is not too short
+pub fixed-long : (size n : ℕ) (r : Room) → short (fixedOnly size n) r ≡ false → size ≤ n
+unfolding short
+fixed-long size n r h = go (ltb n size) refl h
+  where
+    go : (q : Bool) → ltb n size ≡ q → (q || false || false) ≡ false → size ≤ n
+    go true e f = absurd (true≢false f)
+    go false e f = ltb-false n size e

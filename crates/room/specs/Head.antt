@@ -28,7 +28,7 @@ backgroundIn s hd im e =
     orMissing (needTag tag-RMIH 2 s im e) λ ih ih-end.
     orMissing (needTag tag-IM00 0 s im e) λ bg bg-end.
     orMissing (findTag tag-SMAP s bg bg-end) λ sm sm-end.
-    needed.All (record { header = hd; «image_header» = ih; image = bg; «image_end» = bg-end; smap = sm; «smap_end» = sm-end; })
+    needed.All (record { header = hd; «image_header» = ih; image = bg; «image_end» = bg-end; smap = sm; «smap_end» = sm-end })
 
 -- the room's needed blocks: RMHD with its three u16, and RMIM with the background
 unfoldable pub neededIn : List ℕ → Needed
@@ -72,6 +72,7 @@ headOf s = cond (wellFormed s) (headIn s (neededIn s)) (Refused 1)
 
 -- what holds of a room that has none of the refusals 1 to 3
 pub record Sound (s : List ℕ) (r : Room) : Type 0 where
+  pub small : length s ≤ 1048576
   pub whole : r .width % 8 ≡ 0
   pub narrowest : 8 ≤ r .width
   pub widest : r .width ≤ 1024

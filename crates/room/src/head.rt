@@ -3,9 +3,15 @@ ghost use mathlib.Core.Path.{_≡_};
 ghost use Prim.Native.Nat.{_+_, _≤_};
 ghost use lib.ListN.{length};
 ghost use Rattle.room.specs.Head.{backgroundIn, neededIn, objectsRight, roomOf, sizesRight, sized, headOf};
-
-use crate::{Needed, Parts, Room, Tested};
-use block::{count_tag, each_has, find_tag, need_tag, Found};
+use crate::Needed;
+use crate::Parts;
+use crate::Room;
+use crate::Tested;
+use block::Found;
+use block::count_tag;
+use block::each_has;
+use block::find_tag;
+use block::need_tag;
 use number::read_le16;
 
 const RMHD: usize = 0x524D_4844;

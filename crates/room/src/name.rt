@@ -3,11 +3,12 @@ ghost use mathlib.Core.Path.{_≡_};
 ghost use Prim.Native.Nat.{_+_, _-_, _≤_};
 ghost use lib.ListN.{length};
 ghost use Rattle.room.specs.Name.{nulFrom, nameIn, namePlace, nameOf, placeWord, nameNumber};
-
-use crate::object::object_block;
-use crate::test::{nothing_lent, test_room};
 use crate::Tested;
-use block::{need_tag, Found};
+use crate::object::object_block;
+use crate::test::nothing_lent;
+use crate::test::test_room;
+use block::Found;
+use block::need_tag;
 
 const OBNA: usize = 0x4F42_4E41;
 

@@ -4,12 +4,21 @@ ghost use Prim.Native.Nat.{_+_, _≤_};
 ghost use lib.ListN.{length};
 ghost use Rattle.block.specs.declared.Found.the-variants as found;
 ghost use Rattle.room.specs.Object.{cdhdAt, cdhdIn, objectBlock, headerPlace, headerOf, headerBytes, placeNumber, headerCall, headerAfter};
-
+use crate::Cdhd;
+use crate::Header;
+use crate::Lent;
+use crate::Place;
+use crate::Tested;
 use crate::record::put_front;
-use crate::test::{fixed_lent, nothing_lent, test_room};
-use crate::{Cdhd, Header, Lent, Place, Tested};
-use block::{need_tag, nth_tag, Found};
-use number::{read_le16, read_sle16, wide};
+use crate::test::fixed_lent;
+use crate::test::nothing_lent;
+use crate::test::test_room;
+use block::Found;
+use block::need_tag;
+use block::nth_tag;
+use number::read_le16;
+use number::read_sle16;
+use number::wide;
 
 const OBCD: usize = 0x4F42_4344;
 

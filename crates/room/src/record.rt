@@ -5,9 +5,10 @@ ghost use lib.ListN.{length};
 ghost use Rattle.strip.specs.Picture.{over};
 ghost use Rattle.room.specs.Test.{numberOf};
 ghost use Rattle.room.specs.Record.{recordBytes, recordTest, recordAfter};
-
-use crate::test::{fixed_lent, test_room};
-use crate::{Room, Tested};
+use crate::Room;
+use crate::Tested;
+use crate::test::fixed_lent;
+use crate::test::test_room;
 
 // `src` over the front of `out`.
 pub fn put_front(src: &[u8], out: &mut [u8])

@@ -4,11 +4,14 @@ ghost use Prim.Native.Nat.{_≤_};
 ghost use Rattle.table.specs.Test.{leftmost};
 ghost use Rattle.room.specs.Head.{Sound};
 ghost use Rattle.room.specs.Test.{planeIn, planeTest, picturesTest, short, roomTest, nothing, fixedOnly};
-
+use crate::Lent;
+use crate::Room;
+use crate::Tested;
 use crate::head::read_head;
-use crate::{Lent, Room, Tested};
-use block::{find_tag, Found};
-use table::{test_block, Test};
+use block::Found;
+use block::find_tag;
+use table::Test;
+use table::test_block;
 
 const ZP00: usize = 0x5A50_3030;
 

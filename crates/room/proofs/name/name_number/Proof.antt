@@ -61,17 +61,23 @@ returns : tie.Need-returns
 unfolding nameNumber
 returns c =
     let right = sym (c .before .before .before .enum-told .given .1) ∙ c .before .before .before .before .before .test-room .ensures in
-    rw (← c .before .before .before .before .before .before .nothing-lent .ensures, ← right)
+    let block = sym (c .enum-told2 .given .1) ∙ c .before .before .object-block .ensures in
+    rw (← c .before .before .before .before .before .before .nothing-lent .ensures, ← right, ← block)
 
 -- src/name.rt:77:1
 returns-2 : tie.Need-returns-2
 unfolding nameNumber
-returns-2 c = ?
+returns-2 c =
+    let right = sym (c .before .before .before .enum-told .given .1) ∙ c .before .before .before .before .before .test-room .ensures in
+    let none = sym (c .enum-told3 .given .1) ∙ c .before .before .object-block .ensures in
+    rw (← c .before .before .before .before .before .before .nothing-lent .ensures, ← right, ← none)
 
 -- src/name.rt:77:1
 returns-3 : tie.Need-returns-3
 unfolding nameNumber
-returns-3 c = ?
+returns-3 c =
+    let no = sym (c .before .number .given .1) ∙ c .before .before .before .test-room .ensures in
+    rw (← c .before .before .before .before .nothing-lent .ensures, ← no)
 
 pub name-number-spec : {M : Type 1} → statement M
 name-number-spec =

@@ -1,3 +1,20 @@
+use Rattle.room.proofs.NameLaws.{nul-end, nul-here, nul-on, name-at}
+use Rattle.room.proofs.ObjectLaws.{object-at, place-in}
+use Rattle.room.specs.Name.{nulFrom, beforeNul, nameIn, nameAfter, namePlace, nameNumber}
+use Rattle.room.specs.Object.{cdhdAt, cdhdIn, objectBlock, headerPlace, headerBytes, placeNumber, headerAfter}
+use Rattle.room.specs.Record.{recordBytes, recordAfter, recordTest}
+use Rattle.room.specs.Test.{roomTest}
+use Rattle.block.proofs.Laws.{need-at, nth-at}
+use lib.ListN.{length, take, drop, getD, set}
+use mir.ValLaws.{toZ-ofZ}
+use mir.Syntax.{w32}
+use denote.Ref.{now}
+use borrow.Author.Tests.{eq-eqb, ne-eqb, not-true, not-false}
+use native.Mathlib.Nat.{mul-le-mul-left, sub-zero}
+use native.Mathlib.Omega.{arith}
+use Prim.Native.Nat.{ℕ, suc, _+_, _-_, _*_, _/_, _≤_, _<_}
+use mathlib.Core.List.{List, [], _∷_}
+use mathlib.Core.Path.{_≡_, refl, sym, ap, _∙_}
 use borrow.Author.Needs.{needs}
 use Rattle.room.proofs.name.name_place.Statement.{statement}
 use Rattle.room.proofs.name.name_place.Tie as tie
@@ -30,7 +47,9 @@ enum-known-b c = search needs
 
 -- src/name.rt:49:32
 name-in-requires : tie.Need-name-in-requires
-name-in-requires c κs = ?
+name-in-requires c κs =
+    let i = object-at _ _ _ _ (sym (c .before .b .given .1) ∙ c .before .before .before .object-block .ensures) in
+    (i .1, i .2)
 
 -- src/name.rt:50:31
 enum-told-2 : tie.Need-enum-told-2
@@ -42,15 +61,26 @@ enum-told-3 c = search needs
 
 -- src/name.rt:44:1
 returns : tie.Need-returns
-returns c = ?
+unfolding namePlace
+returns c =
+    let right = sym (c .before .before .before .before .before .enum-told .given .1) ∙ c .before .before .before .before .before .before .before .test-room .ensures in
+    let block = sym (c .before .before .b .given .1) ∙ c .before .before .before .before .object-block .ensures in
+    rw (← c .before .before .before .before .before .before .before .before .nothing-lent .ensures, ← right, ← block) (c .name-in .ensures)
 
 -- src/name.rt:44:1
 returns-2 : tie.Need-returns-2
-returns-2 c = ?
+unfolding namePlace nameIn
+returns-2 c =
+    let right = sym (c .before .before .before .enum-told .given .1) ∙ c .before .before .before .before .before .test-room .ensures in
+    let none = sym (c .enum-told2 .given .1) ∙ c .before .before .object-block .ensures in
+    rw (← c .before .before .before .before .before .before .nothing-lent .ensures, ← right, ← none)
 
 -- src/name.rt:44:1
 returns-3 : tie.Need-returns-3
-returns-3 c = ?
+unfolding namePlace
+returns-3 c =
+    let no = sym (c .enum-told3 .given .1) ∙ c .before .before .test-room .ensures in
+    rw (← c .before .before .before .nothing-lent .ensures, ← no)
 
 pub name-place-spec : {M : Type 1} → statement M
 name-place-spec =

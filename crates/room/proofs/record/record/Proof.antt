@@ -1,3 +1,21 @@
+use Rattle.room.proofs.TestLaws.{test-passes, fixed-long}
+use Rattle.room.proofs.NameLaws.{nul-end, nul-here, nul-on, name-at}
+use Rattle.room.proofs.ObjectLaws.{object-at, place-in}
+use Rattle.room.specs.Name.{nulFrom, beforeNul, nameIn, nameAfter, namePlace, nameNumber}
+use Rattle.room.specs.Object.{cdhdAt, cdhdIn, objectBlock, headerPlace, headerBytes, placeNumber, headerAfter}
+use Rattle.room.specs.Record.{recordBytes, recordAfter, recordTest}
+use Rattle.room.specs.Test.{roomTest}
+use Rattle.block.proofs.Laws.{need-at, nth-at}
+use lib.ListN.{length, take, drop, getD, set}
+use mir.ValLaws.{toZ-ofZ}
+use mir.Syntax.{w32}
+use denote.Ref.{now}
+use borrow.Author.Tests.{eq-eqb, ne-eqb, not-true, not-false}
+use native.Mathlib.Nat.{mul-le-mul-left, sub-zero}
+use native.Mathlib.Omega.{arith}
+use Prim.Native.Nat.{ℕ, suc, _+_, _-_, _*_, _/_, _≤_, _<_}
+use mathlib.Core.List.{List, [], _∷_}
+use mathlib.Core.Path.{_≡_, refl, sym, ap, _∙_}
 use borrow.Author.Needs.{needs}
 use Rattle.room.proofs.record.record.Statement.{statement}
 use Rattle.room.proofs.record.record.Tie as tie
@@ -30,7 +48,13 @@ slice-aggregate-put-front c = search needs
 
 -- src/record.rt:57:13
 put-front-requires : tie.Need-put-front-requires
-put-front-requires c κs = ?
+unfolding recordBytes
+put-front-requires c κs =
+    let right = sym (c .before .before .before .before .r .given .1) ∙ c .before .before .before .before .before .before .test-room .ensures ∙ ap (λ l. roomTest l (now (c .before .before .before .before .before .before .before .before .before .before .args .s))) (c .before .before .before .before .before .before .before .fixed-lent .ensures) in
+    let long : 16 ≤ length (now (c .before .before .before .before .before .before .before .before .before .before .args .out)) = fixed-long _ _ _ (test-passes _ _ _ right .enough) in
+    let size : length (c .before .before .record-bytes .result) ≡ 16 = ap length (c .before .before .record-bytes .ensures) in
+    let room : length (c .before .before .record-bytes .result) ≤ length (now (c .before .before .before .before .before .before .before .before .before .before .args .out)) = omega arith in
+    room
 
 -- src/record.rt:60:25
 enum-known-number : tie.Need-enum-known-number
@@ -46,11 +70,15 @@ same-length c = search needs
 
 -- src/record.rt:51:1
 returns : tie.Need-returns
-returns c = ?
+returns c =
+    let right = sym (c .before .before .before .before .before .before .before .r .given .1) ∙ c .before .before .before .before .before .before .before .before .before .test-room .ensures ∙ ap (λ l. roomTest l (now (c .before .before .before .before .before .before .before .before .before .before .before .before .before .args .s))) (c .before .before .before .before .before .before .before .before .before .before .fixed-lent .ensures) in
+    (rw (← right), rw (← right, ← c .before .before .before .before .before .record-bytes .ensures) (c .before .before .put-front .ensures))
 
 -- src/record.rt:51:1
 returns-2 : tie.Need-returns-2
-returns-2 c = ?
+returns-2 c =
+    let no = sym (c .before .number .given .1) ∙ c .before .before .before .test-room .ensures ∙ ap (λ l. roomTest l (now (c .before .before .before .before .before .before .before .args .s))) (c .before .before .before .before .fixed-lent .ensures) in
+    (rw (← no), rw (← no))
 
 pub record-spec : {M : Type 1} → statement M
 record-spec =
