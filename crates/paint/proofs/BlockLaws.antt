@@ -14,7 +14,7 @@ use Rattle.table.specs.declared.Test.the-variants.{Passed, Refused}
 pub not-passed : (n : ℕ) → Refused n ≡ Passed → ⊥
 not-passed n h = let z : _≡_ {A = ℕ} 0 1 = cc in omega arith
 
-both-pass : (a b : Test) → andThen a b ≡ Passed → (a ≡ Passed) × (b ≡ Passed)
+pub both-pass : (a b : Test) → andThen a b ≡ Passed → (a ≡ Passed) × (b ≡ Passed)
 both-pass Passed b h = (refl, h)
 both-pass (Refused n) b h = absurd (not-passed n h)
 

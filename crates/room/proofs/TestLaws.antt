@@ -2,13 +2,13 @@
 use mathlib.Core.Path.{_≡_, refl, sym, ap, _∙_, subst⁻¹}
 use mathlib.Core.List.{List}
 use mathlib.Core.Bool.{Bool, true, false, cond, _||_, true≢false}
-use Prim.Native.Nat.{ℕ, _≤_}
+use Prim.Native.Nat.{ℕ, _*_, _≤_}
 use borrow.Author.Tests.{ltb-false}
 use lib.Dec.{ltb}
 use Rattle.table.specs.declared.Test.{Test}
 use Rattle.table.specs.declared.Test.the-variants as test
 use Rattle.room.specs.Head.{headOf, Sound}
-use Rattle.room.specs.Test.{picturesTest, short, orRefused, afterHead, roomTest, fixedOnly}
+use Rattle.room.specs.Test.{picturesTest, short, orRefused, afterHead, roomTest, fixedOnly, withSurfaces, strips}
 use Rattle.room.specs.declared.Lent.{Lent}
 use Rattle.room.specs.declared.Room.{Room}
 use Rattle.room.specs.declared.Tested.{Tested}
@@ -51,3 +51,16 @@ fixed-long size n r h = go (ltb n size) refl h
     go : (q : Bool) → ltb n size ≡ q → (q || false || false) ≡ false → size ≤ n
     go true e f = absurd (true≢false f)
     go false e f = ltb-false n size e
+
+-- a session and surfaces that are not too short
+pub surfaces-long : (size n pixels masks : ℕ) (r : Room) → short (withSurfaces size n pixels masks) r ≡ false
+    → (size ≤ n) × (r .width * r .height ≤ pixels) × (strips r * (r .planes * r .height) ≤ masks)
+unfolding short
+surfaces-long size n pixels masks r h = go (ltb n size) (ltb pixels (r .width * r .height)) (ltb masks (strips r * (r .planes * r .height))) refl refl refl h
+  where
+    go : (p q t : Bool) → ltb n size ≡ p → ltb pixels (r .width * r .height) ≡ q → ltb masks (strips r * (r .planes * r .height)) ≡ t
+        → (p || (q || t) || false) ≡ false → (size ≤ n) × (r .width * r .height ≤ pixels) × (strips r * (r .planes * r .height) ≤ masks)
+    go true q t a b c f = absurd (true≢false f)
+    go false true t a b c f = absurd (true≢false f)
+    go false false true a b c f = absurd (true≢false f)
+    go false false false a b c f = (ltb-false n size a, ltb-false pixels (r .width * r .height) b, ltb-false masks (strips r * (r .planes * r .height)) c)

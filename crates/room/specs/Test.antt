@@ -71,3 +71,8 @@ nothing = record { «fixed_short» = false; «has_surfaces» = false; pixels = 0
 -- one buffer of a fixed size, lent with n bytes
 abbrev pub fixedOnly : (size n : ℕ) → Lent
 fixedOnly size n = record { «fixed_short» = ltb n size; «has_surfaces» = false; pixels = 0; masks = 0; «has_flags» = false; flags = 0 }
+
+-- a session of a fixed size, lent with n bytes, and both surfaces
+abbrev pub withSurfaces : (size n pixels masks : ℕ) → Lent
+withSurfaces size n pixels masks =
+    record { «fixed_short» = ltb n size; «has_surfaces» = true; pixels = pixels; masks = masks; «has_flags» = false; flags = 0 }

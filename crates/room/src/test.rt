@@ -3,7 +3,7 @@ ghost use mathlib.Core.Path.{_≡_};
 ghost use Prim.Native.Nat.{_≤_};
 ghost use Rattle.table.specs.Test.{leftmost};
 ghost use Rattle.room.specs.Head.{Sound};
-ghost use Rattle.room.specs.Test.{planeIn, planeTest, picturesTest, short, roomTest, nothing, fixedOnly};
+ghost use Rattle.room.specs.Test.{planeIn, planeTest, picturesTest, short, roomTest, nothing, fixedOnly, withSurfaces};
 use crate::Lent;
 use crate::Room;
 use crate::Tested;
@@ -126,6 +126,20 @@ pub fn fixed_lent(size: usize, n: usize) -> Lent
         has_surfaces: false,
         pixels: 0,
         masks: 0,
+        has_flags: false,
+        flags: 0,
+    }
+}
+
+// A session of a fixed size, lent with n bytes, and both surfaces.
+pub fn surfaces_lent(size: usize, n: usize, pixels: usize, masks: usize) -> Lent
+    ensures { λ l. ⌜ l ≡ withSurfaces size n pixels masks ⌝ }
+{
+    Lent {
+        fixed_short: n < size,
+        has_surfaces: true,
+        pixels,
+        masks,
         has_flags: false,
         flags: 0,
     }

@@ -1,0 +1,65 @@
+-- Laws of the load: what a room that passes says of its pictures, and one plane more.
+use mathlib.Core.Path.{_≡_, refl, sym, ap, ap₂, _∙_}
+use mathlib.Core.Bool.{true, false}
+use mathlib.Core.List.{List, _++_}
+use Prim.Native.Nat.{ℕ, suc, _+_, _-_, _*_, _/_, _%_, _≤_, _<_}
+use native.Mathlib.Nat.{add-mul, one-mul}
+use native.Mathlib.Omega.{arith}
+use lib.Arith.{digits-div, digits-mod}
+use lib.ListN.{length, take, drop, replicate, length-replicate}
+use Rattle.block.specs.declared.Found.{Found}
+use Rattle.block.specs.declared.Found.the-variants.{At, Missing}
+use Rattle.grid.specs.Grid.{upd, boxed}
+use Rattle.grid.proofs.Box.{box-below}
+use Rattle.strip.specs.Picture.{over}
+use Rattle.strip.proofs.PictureLaws.{over-of}
+use Rattle.table.specs.Body.{maskAt}
+use Rattle.table.specs.Test.{blockTest, leftmost}
+use Rattle.table.specs.declared.Test.the-variants.{Passed}
+use Rattle.paint.proofs.BlockLaws.{both-pass, leftmost-each}
+use Rattle.room.specs.Head.{Sound}
+use Rattle.room.specs.Test.{strips, planeIn, planeTest, picturesTest}
+use Rattle.room.specs.declared.Room.{Room}
+use Rattle.load.specs.Load.{sessionSize, mask, loadedPlane, emptied}
+
+module _ (s : List ℕ) (r : Room) (passed : picturesTest s r ≡ Passed) where
+  pub background-passes : blockTest false (strips r) (r .height) s (r .smap) (r .«smap_end») ≡ Passed
+  unfolding picturesTest
+  background-passes = both-pass (blockTest false (strips r) (r .height) s (r .smap) (r .«smap_end»)) (leftmost (planeTest s r) 1 (r .planes)) passed .0
+
+  pub plane-passes : (k : ℕ) → 1 ≤ k → k ≤ r .planes → planeTest s r k ≡ Passed
+  unfolding picturesTest
+  plane-passes k one le =
+      leftmost-each (planeTest s r) (r .planes) 1
+      (both-pass (blockTest false (strips r) (r .height) s (r .smap) (r .«smap_end»)) (leftmost (planeTest s r) 1 (r .planes)) passed .1) k one (omega arith)
+
+-- the test of a plane that is there
+pub found-passes : (s : List ℕ) (r : Room) (k b z : ℕ) → At b z ≡ planeIn s r k → planeTest s r k ≡ Passed → blockTest true (strips r) (r .height) s b z ≡ Passed
+unfolding planeTest
+found-passes s r k b z at passed = rw (← at) at passed
+
+-- the rows of k - 1 planes, and those of plane k below them
+abbrev pub rowOf : List ℕ → Room → ℕ → ℕ → ℕ → ℕ
+rowOf s r k q o = mask s r (q / r .height + 1) k (q % r .height)
+
+pub planes-more : (s : List ℕ) (r : Room) (k : ℕ) (l px qx : List ℕ) → 1 ≤ k
+    → px ≡ upd (boxed (strips r) 0 0 (strips r) ((k - 1) * r .height) (rowOf s r)) l
+    → qx ≡ loadedPlane s r k px
+    → qx ≡ upd (boxed (strips r) 0 0 (strips r) ((k + 1 - 1) * r .height) (rowOf s r)) l
+unfolding loadedPlane
+planes-more s r k l px qx one p q =
+    let back : k - 1 + 1 ≡ k = omega arith in
+    let next : k + 1 - 1 ≡ k = omega arith in
+    let rows : (k - 1) * r .height + r .height ≡ k * r .height =
+      sym (ap (λ (n : ℕ). n * r .height) (sym back) ∙ add-mul (k - 1) 1 (r .height) ∙ ap (λ (n : ℕ). (k - 1) * r .height + n) (one-mul (r .height))) in
+    rw (next, ← rows)
+    (box-below (strips r) 0 0 ((k - 1) * r .height) (strips r) ((k - 1) * r .height) (r .height) (rowOf s r) (λ c y o. mask s r k c y) l px qx
+    (omega arith)
+    (λ c y o hc hy.
+    sym (ap₂ (λ (a b : ℕ). mask s r a c b) (ap (λ (n : ℕ). n + 1) (digits-div (k - 1) hy) ∙ back) (digits-mod (k - 1) hy)))
+    p q)
+
+-- a session that is all zero
+pub emptied-of : (old new : List ℕ) → take (0 + 450) new ≡ take 0 old ++ replicate 450 0 → drop (0 + 450) new ≡ drop (0 + 450) old → new ≡ emptied old
+unfolding emptied
+emptied-of old new front back = over-of (replicate 450 0) new old 450 refl front back
