@@ -51,7 +51,7 @@ planes-more s r k l px qx one p q =
     let back : k - 1 + 1 ≡ k = omega arith in
     let next : k + 1 - 1 ≡ k = omega arith in
     let rows : (k - 1) * r .height + r .height ≡ k * r .height =
-      sym (ap (λ (n : ℕ). n * r .height) (sym back) ∙ add-mul (k - 1) 1 (r .height) ∙ ap (λ (n : ℕ). (k - 1) * r .height + n) (one-mul (r .height))) in
+    sym (ap (λ (n : ℕ). n * r .height) (sym back) ∙ add-mul (k - 1) 1 (r .height) ∙ ap (λ (n : ℕ). (k - 1) * r .height + n) (one-mul (r .height))) in
     rw (next, ← rows)
     (box-below (strips r) 0 0 ((k - 1) * r .height) (strips r) ((k - 1) * r .height) (r .height) (rowOf s r) (λ c y o. mask s r k c y) l px qx
     (omega arith)

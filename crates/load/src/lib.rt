@@ -7,10 +7,12 @@ ghost use Rattle.table.specs.declared.Test.the-variants.{Passed};
 ghost use Rattle.room.specs.Head.{Sound};
 ghost use Rattle.room.specs.Test.{strips, planeTest, picturesTest, numberOf};
 ghost use Rattle.load.specs.Load.{loadedPixels, loadedPlane, loadedMasks, emptied, loadTest, pixelsAfter, masksAfter, sessionAfter};
-
 use block::Found;
-use room::test::{plane_in, surfaces_lent, test_room};
-use room::{Room, Tested};
+use room::Room;
+use room::Tested;
+use room::test::plane_in;
+use room::test::surfaces_lent;
+use room::test::test_room;
 
 // Empties the session.
 pub fn empty_session(session: &mut [u8])

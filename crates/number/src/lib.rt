@@ -2,7 +2,7 @@
 ghost use mathlib.Core.Path.{_≡_};
 ghost use Prim.Native.Nat.{_+_, _≤_, _<_};
 ghost use lib.ListN.{length};
-ghost use Rattle.number.specs.Number.{be32, le16, le32, sle16, wideOf};
+ghost use Rattle.number.specs.Number.{be32, le16, le32, sle16, wideOf, ahead, behind};
 
 // A byte at a wider type.
 pub fn wide(x: u8) -> usize
@@ -42,4 +42,18 @@ pub fn read_le32(s: &[u8], at: usize) -> usize
     ensures { λ r. ⌜ (r ≡ le32 (now (s .entry)) at) × (r < 4294967296) ⌝ }
 {
     wide(s[at]) + wide(s[at + 1]) * 256 + wide(s[at + 2]) * 65536 + wide(s[at + 3]) * 16777216
+}
+
+// How far x stands past 0.
+pub fn ahead_of(x: i32) -> usize
+    ensures { λ r. ⌜ (r ≡ ahead x) × (r < 4294967296) ⌝ }
+{
+    if x < 0 { 0 } else { x as usize }
+}
+
+// How far x stands before 0; in 64 bits, since the least i32 has no negative of its own type.
+pub fn behind_of(x: i32) -> usize
+    ensures { λ r. ⌜ (r ≡ behind x) × (r < 4294967296) ⌝ }
+{
+    if x < 0 { (0 - (x as i64)) as usize } else { 0 }
 }

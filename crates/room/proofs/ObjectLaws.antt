@@ -42,6 +42,9 @@ module _ (s : List ℕ) where
   payload-in a e (found.At p z) l i = omega arith
   payload-in a e found.Missing l i = tt
 
+  pub cdhd-at : (b z p : ℕ) → z ≤ length s → At p ≡ cdhdIn s (found.At b z) → p + 13 ≤ length s
+  cdhd-at b z p le h = subst⁻¹ HeaderIn h (payload-in (b + 8) z (needTag tag-CDHD 13 s (b + 8) z) le (need-in tag-CDHD 13 s (b + 8) z))
+
   cdhd-holds : (f : Found) → Inside 8 (length s) f → HeaderIn (cdhdIn s f)
   cdhd-holds (found.At b z) i = payload-in (b + 8) z (needTag tag-CDHD 13 s (b + 8) z) (omega arith) (need-in tag-CDHD 13 s (b + 8) z)
   cdhd-holds found.Missing i = tt

@@ -1,0 +1,7 @@
+pub mod CornerLaws
+pub mod SizeLaws
+pub mod MaskLaws
+pub mod StampLaws
+pub mod AnswerLaws
+pub mod ActorLaws
+mod Examples

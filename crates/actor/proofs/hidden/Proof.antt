@@ -1,0 +1,26 @@
+-- `actor::hidden` meets its contract. Assumes nothing.
+use Rattle.actor.proofs.AnswerLaws.{is-refused, is-hidden, is-shown}
+use Rattle.actor.proofs.SizeLaws.{hidden-accepted}
+use mathlib.Core.Path.{sym, _∙_}
+use borrow.Author.Needs.{needs}
+use Rattle.actor.proofs.hidden.Statement.{statement}
+use Rattle.actor.proofs.hidden.Tie as tie
+
+hidden-number-requires : tie.Need-hidden-number-requires
+hidden-number-requires c κs = search needs
+
+returns : tie.Need-returns
+returns c = (is-refused _ _ _ (c .before .hidden-number .ensures) (c .if1 .taken), c .before .hidden-number .ensures)
+
+hidden-at-requires : tie.Need-hidden-at-requires
+hidden-at-requires c κs = hidden-accepted _ _ _ _ _ _ (sym (c .before .hidden-number .ensures) ∙ c .if1 .left)
+
+returns-2 : tie.Need-returns-2
+returns-2 c = (is-hidden _ _ _ (c .before .before .before .hidden-number .ensures) (c .before .before .if1 .left) (sym (c .before .hidden-at .ensures) ∙ c .if2 .taken), sym (c .before .before .if1 .left) ∙ c .before .before .before .hidden-number .ensures)
+
+returns-3 : tie.Need-returns-3
+returns-3 c = (is-shown _ _ _ (c .before .before .before .hidden-number .ensures) (c .before .before .if1 .left) (sym (c .before .hidden-at .ensures) ∙ c .if2 .left), sym (c .before .before .if1 .left) ∙ c .before .before .before .hidden-number .ensures)
+
+pub hidden-spec : {M : Type 1} → statement M
+hidden-spec =
+    tie.close (tie.spec hidden-number-requires returns hidden-at-requires returns-2 returns-3)

@@ -1,0 +1,4 @@
+pub mod Sizes
+pub mod Hidden
+pub mod Corner
+pub mod Stamp

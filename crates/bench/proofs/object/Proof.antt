@@ -1,0 +1,66 @@
+use Rattle.room.proofs.ObjectLaws.{cdhd-at}
+use Rattle.room.specs.declared.Cdhd.{Cdhd}
+use Rattle.room.specs.Object.{cdhdAt}
+use Rattle.block.proofs.Laws.{nth-at, need-at}
+use lib.ListN.{length, getD}
+use denote.Ref.{now}
+use native.Mathlib.Omega.{arith}
+use Prim.Native.Nat.{ℕ, suc, _+_, _-_, _*_, _/_, _%_, _≤_, _<_}
+use mathlib.Core.Path.{_≡_, refl, sym, ap, _∙_}
+use borrow.Author.Needs.{needs}
+use Rattle.bench.proofs.object.Statement.{statement}
+use Rattle.bench.proofs.object.Tie as tie
+use Rattle.bench.proofs.object.Reads as reads
+use Rattle.bench.proofs.object.Lts as lts
+use Rattle.bench.proofs.object_line.Reads as object-line-reads
+use Rattle.room.proofs.object.cdhd_in.Reads as cdhd-in-reads
+use Rattle.room.proofs.object.read_cdhd.Reads as read-cdhd-reads
+
+-- src/main.rt:59:11
+cdhd-in-requires : tie.Need-cdhd-in-requires
+cdhd-in-requires c κs = search needs
+
+-- src/main.rt:60:19
+enum-known-p : tie.Need-enum-known-p
+enum-known-p c = search needs
+
+-- src/main.rt:61:17
+read-cdhd-requires : tie.Need-read-cdhd-requires
+read-cdhd-requires c κs = cdhd-at _ _ _ _ (omega arith) (sym (c .before .p .given .1) ∙ c .before .before .before .cdhd-in .ensures)
+
+-- src/main.rt:62:13
+object-line-requires : tie.Need-object-line-requires
+unfolding cdhdAt
+object-line-requires c κs =
+    let e = c .read-cdhd .ensures in
+    let room = now (c .before .before .before .before .before .before .args .room) in
+    let p = c .before .before .p .given .0 .0 in
+    let bytes = c .before .before .before .before .before .shared-slice-known .given in
+    let x : c .read-cdhd .result .x ≡ getD room (p + 2) 0 = ap (λ (h : Cdhd). h .x) e in
+    let y : c .read-cdhd .result .y ≡ getD room (p + 3) 0 = ap (λ (h : Cdhd). h .y) e in
+    let width : c .read-cdhd .result .width ≡ getD room (p + 4) 0 = ap (λ (h : Cdhd). h .width) e in
+    let height : c .read-cdhd .result .height ≡ getD room (p + 5) 0 = ap (λ (h : Cdhd). h .height) e in
+    (omega (arith, bytes (p + 2)), omega (arith, bytes (p + 3)), omega (arith, bytes (p + 4)), omega (arith, bytes (p + 5)))
+
+enum-told : tie.Need-enum-told
+enum-told c = search needs
+
+-- src/main.rt:56:1
+returns : tie.Need-returns
+returns c = search needs
+
+-- src/main.rt:56:1
+returns-2 : tie.Need-returns-2
+returns-2 c = search needs
+
+pub object-spec : {M : Type 1} → statement M
+object-spec =
+    tie.close
+    (tie.spec
+    cdhd-in-requires
+    enum-known-p
+    read-cdhd-requires
+    object-line-requires
+    enum-told
+    returns
+    returns-2)
