@@ -8,11 +8,11 @@ use native.Mathlib.Omega.{arith}
 use Prim.Native.Nat.{ℕ, suc, _+_, _-_, _*_, _/_, _%_, _≤_, _<_}
 use mathlib.Core.Path.{_≡_, refl, sym, ap, _∙_}
 use borrow.Author.Needs.{needs}
-use Rattle.bench.proofs.object.Statement.{statement}
-use Rattle.bench.proofs.object.Tie as tie
-use Rattle.bench.proofs.object.Reads as reads
-use Rattle.bench.proofs.object.Lts as lts
-use Rattle.bench.proofs.object_line.Reads as object-line-reads
+use Rattle.listing.proofs.object.Statement.{statement}
+use Rattle.listing.proofs.object.Tie as tie
+use Rattle.listing.proofs.object.Reads as reads
+use Rattle.listing.proofs.object.Lts as lts
+use Rattle.listing.proofs.object_line.Reads as object-line-reads
 use Rattle.room.proofs.object.cdhd_in.Reads as cdhd-in-reads
 use Rattle.room.proofs.object.read_cdhd.Reads as read-cdhd-reads
 

@@ -5,11 +5,11 @@ use borrow.Author.Needs.{needs}
 use native.Mathlib.Omega.{arith}
 use Prim.Native.Nat.{ℕ, suc, _+_, _-_, _*_, _/_, _%_, _≤_, _<_}
 use mathlib.Core.Path.{_≡_, refl, sym, ap, _∙_}
-use Rattle.bench.proofs.objects.Statement.{statement}
-use Rattle.bench.proofs.objects.Tie as tie
-use Rattle.bench.proofs.objects.Reads as reads
-use Rattle.bench.proofs.objects.Lts as lts
-use Rattle.bench.proofs.object.Reads as object-reads
+use Rattle.listing.proofs.objects.Statement.{statement}
+use Rattle.listing.proofs.objects.Tie as tie
+use Rattle.listing.proofs.objects.Reads as reads
+use Rattle.listing.proofs.objects.Lts as lts
+use Rattle.listing.proofs.object.Reads as object-reads
 use Rattle.block.proofs.find_tag.Reads as find-tag-reads
 
 abbrev Inv-loop : tie.InvT-loop
