@@ -1,0 +1,140 @@
+-- Laws of the calls: each answer from the tests that led to it.
+use mathlib.Core.Path.{_≡_, refl, sym, ap, _∙_}
+use mathlib.Core.Bool.{Bool, true, false, _&&_}
+use mathlib.Core.List.{List, _++_, append-assoc}
+use Prim.Native.Nat.{ℕ, _+_, _*_, _/_, _%_, _≤_, _<_}
+use native.Mathlib.Nat.{le-trans, mul-le-mul-right}
+use native.Mathlib.Omega.{arith}
+use borrow.Author.Tests.{lt-ltb, le-ltb, leb-true, eqb-true}
+use lib.ListN.{length, take, drop, length-append}
+use lib.Dec.{leb, eqb}
+use Rattle.strip.specs.Picture.{over}
+use Rattle.blocks.specs.declared.Wrote.{Wrote}
+use Rattle.blocks.specs.declared.Wrote.the-variants.{Block, Refused}
+use Rattle.table.specs.Table.{tableEnd}
+use Rattle.blocks.specs.Block.{bigEndian, tableFrom, bodiesFrom, sizeOf, blockOf, bodyFor}
+use Rattle.blocks.specs.Put.{putAt}
+use Rattle.blocks.specs.Call.{sizesAllowed, sourceSize, blockOutcome, smapOutcome, planeOutcome, Answered}
+use Rattle.table.proofs.TableLaws.{and-left, and-right}
+use Rattle.blocks.proofs.PutLaws.{put-length, put-to, put-past}
+use Rattle.blocks.proofs.FillLaws.{length-table}
+
+-- ---- sizes
+
+pub and-true : (a b : Bool) → (a && b) ≡ true → (a ≡ true) × (b ≡ true)
+and-true a b e = (and-left a b e, and-right a b e)
+
+pub record Sizes (w h : ℕ) : Type 0 where
+  pub even : w % 8 ≡ 0
+  pub wide : 8 ≤ w
+  pub narrow : w ≤ 1024
+  pub one : 1 ≤ h
+  pub high : h ≤ 200
+
+pub sizes : (w h : ℕ) → sizesAllowed w h ≡ true → Sizes w h
+unfolding sizesAllowed
+sizes w h e =
+    let a = and-true (eqb (w % 8) 0) (leb 8 w && (leb w 1024 && (leb 1 h && leb h 200))) e in
+    let b = and-true (leb 8 w) (leb w 1024 && (leb 1 h && leb h 200)) (a .1) in
+    let c = and-true (leb w 1024) (leb 1 h && leb h 200) (b .1) in
+    let d = and-true (leb 1 h) (leb h 200) (c .1) in
+    record {
+      even = eqb-true (w % 8) 0 (a .0);
+      wide = leb-true 8 w (b .0);
+      narrow = leb-true w 1024 (c .0);
+      one = leb-true 1 h (d .0);
+      high = leb-true h 200 (d .1);
+    }
+
+pub need-few : (n h : ℕ) → n ≤ 128 → h ≤ 200 → h * (8 * n) ≤ 204800
+need-few n h a b = le-trans (mul-le-mul-right (8 * n) b) (omega arith)
+
+pub rows-few : (n h : ℕ) → n ≤ 128 → h ≤ 200 → h * n ≤ 25600
+rows-few n h a b = le-trans (mul-le-mul-right n b) (omega arith)
+
+-- ---- a block
+
+pub length-big-endian : (v : ℕ) → length (bigEndian v) ≡ 4
+unfolding bigEndian
+length-big-endian v = refl
+
+pub length-block : (tag : ℕ) (mask : Bool) (n : ℕ) (f : ℕ → List ℕ) → length (blockOf tag mask n f) ≡ sizeOf mask n f
+unfolding blockOf sizeOf
+length-block tag mask n f =
+    let s = tableEnd mask n + length (bodiesFrom f 0 n) in
+    omega (
+      arith,
+      length-append (bigEndian tag) (bigEndian s ++ (tableFrom mask f 0 n (tableEnd mask n) ++ bodiesFrom f 0 n)),
+      length-append (bigEndian s) (tableFrom mask f 0 n (tableEnd mask n) ++ bodiesFrom f 0 n),
+      length-append (tableFrom mask f 0 n (tableEnd mask n)) (bodiesFrom f 0 n),
+      length-table mask f 0 n (tableEnd mask n),
+      length-big-endian tag,
+      length-big-endian s,
+    )
+
+module _ (tag : ℕ) (mask : Bool) (n : ℕ) (f : ℕ → List ℕ) (d : List ℕ) (size : ℕ) (same : size ≡ sizeOf mask n f) (room : 8 ≤ length d) where
+  pub block-done : (x e : List ℕ) → x ≡ putAt (putAt d 0 (bigEndian tag)) 4 (bigEndian size)
+      → e ≡ over (take 8 x ++ (tableFrom mask f 0 n (tableEnd mask n) ++ bodiesFrom f 0 n)) x
+      → e ≡ over (blockOf tag mask n f) d
+  unfolding over blockOf
+  block-done x e g h =
+      let one = putAt d 0 (bigEndian tag) in
+      let two = putAt one 4 (bigEndian size) in
+      let lt = length-big-endian tag in
+      let ls = length-big-endian size in
+      let rest = tableFrom mask f 0 n (tableEnd mask n) ++ bodiesFrom f 0 n in
+      let h1 : 0 + length (bigEndian tag) ≤ length d = omega arith in
+      let l1 : length one ≡ length d = put-length d 0 (bigEndian tag) h1 in
+      let h2 : 4 + length (bigEndian size) ≤ length one = omega arith in
+      let front : take 8 x ≡ bigEndian tag ++ bigEndian size =
+      ap (take 8) g ∙ put-to one 4 (bigEndian size) h2 8 (omega arith) ∙ ap (λ (q : List ℕ). q ++ bigEndian size) (put-to d 0 (bigEndian tag) h1 4 (omega arith)) in
+      let all : take 8 x ++ rest ≡ blockOf tag mask n f =
+      ap (λ (q : List ℕ). q ++ rest) front ∙ append-assoc (bigEndian tag) (bigEndian size) rest ∙ ap (λ (k : ℕ). bigEndian tag ++ (bigEndian k ++ rest)) same in
+      let big : 8 ≤ length (blockOf tag mask n f) = omega (arith, length-append (bigEndian tag) (bigEndian (sizeOf mask n f) ++ rest), length-append (bigEndian (sizeOf mask n f)) rest, length-big-endian (sizeOf mask n f)) in
+      h
+      ∙ ap (λ (q : List ℕ). q ++ drop (length q) x) all
+      ∙ ap (λ (q : List ℕ). blockOf tag mask n f ++ q)
+      (ap (drop (length (blockOf tag mask n f))) g
+      ∙ put-past one 4 (bigEndian size) h2 (length (blockOf tag mask n f)) (omega arith)
+      ∙ put-past d 0 (bigEndian tag) h1 (length (blockOf tag mask n f)) (omega arith))
+
+-- ---- the answers
+
+module _ (tag : ℕ) (mask : Bool) (n h : ℕ) (src d : List ℕ) where
+  pub short-source : length src < sourceSize mask n h → Answered (blockOutcome tag mask n h src (length d)) d d (Refused 4)
+  unfolding blockOutcome
+  short-source lt = rw (lt-ltb (length src) (sourceSize mask n h) lt) (refl, refl)
+
+  module _ (enough : sourceSize mask n h ≤ length src) (size : ℕ) (same : size ≡ sizeOf mask n (bodyFor mask n h src)) where
+    len : length (blockOf tag mask n (bodyFor mask n h src)) ≡ size
+    len = length-block tag mask n (bodyFor mask n h src) ∙ sym same
+
+    pub short-target : length d < size → Answered (blockOutcome tag mask n h src (length d)) d d (Refused 4)
+    unfolding blockOutcome
+    short-target lt =
+        rw (le-ltb (length src) (sourceSize mask n h) enough, lt-ltb (length d) (length (blockOf tag mask n (bodyFor mask n h src))) (omega (arith, len))) (refl, refl)
+
+    pub whole-block : size ≤ length d → (e : List ℕ) → e ≡ over (blockOf tag mask n (bodyFor mask n h src)) d
+        → Answered (blockOutcome tag mask n h src (length d)) d e (Block size)
+    unfolding blockOutcome
+    whole-block le e f =
+        rw (le-ltb (length src) (sourceSize mask n h) enough, le-ltb (length d) (length (blockOf tag mask n (bodyFor mask n h src))) (omega (arith, len)))
+        (ap Block (sym len), f)
+
+pub smap-refused : (w h : ℕ) (src d : List ℕ) → sizesAllowed w h ≡ false → Answered (smapOutcome w h src (length d)) d d (Refused 3)
+unfolding smapOutcome
+smap-refused w h src d e = rw e (refl, refl)
+
+pub smap-written : (w h : ℕ) (src d e : List ℕ) (r : Wrote) → sizesAllowed w h ≡ true → Answered (blockOutcome 0x534D4150 false (w / 8) h src (length d)) d e r
+    → Answered (smapOutcome w h src (length d)) d e r
+unfolding smapOutcome
+smap-written w h src d e r t a = rw t a
+
+pub plane-refused : (k w h : ℕ) (src d : List ℕ) → (sizesAllowed w h && (leb 1 k && leb k 4)) ≡ false → Answered (planeOutcome k w h src (length d)) d d (Refused 3)
+unfolding planeOutcome
+plane-refused k w h src d e = rw e (refl, refl)
+
+pub plane-written : (k w h : ℕ) (src d e : List ℕ) (r : Wrote) → (sizesAllowed w h && (leb 1 k && leb k 4)) ≡ true
+    → Answered (blockOutcome (0x5A503030 + k) true (w / 8) h src (length d)) d e r → Answered (planeOutcome k w h src (length d)) d e r
+unfolding planeOutcome
+plane-written k w h src d e r t a = rw t a

@@ -1,0 +1,9 @@
+pub mod PutLaws
+pub mod StripBytesLaws
+pub mod FillLaws
+pub mod BoundLaws
+pub mod CallLaws
+pub mod PlacedLaws
+pub mod BackLaws
+pub mod ReadBack
+pub mod Worked

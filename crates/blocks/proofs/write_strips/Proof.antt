@@ -1,0 +1,131 @@
+use Rattle.blocks.proofs.PutLaws.{put-mid}
+use Rattle.blocks.proofs.FillLaws.{Filling, offsets-few, filling-start, body-room, offset-room, filling-more, filled}
+use Rattle.blocks.proofs.PutLaws.{put-length}
+use Rattle.blocks.specs.Block.{bodyFor, offsetBytes}
+use Rattle.blocks.specs.Put.{putAt}
+use borrow.Author.Needs.{needs}
+use denote.Ref.{now}
+use lib.ListN.{length, length-drop, length-take}
+use Prim.Native.Nat.{ℕ, _+_, _-_, _*_}
+use mathlib.Core.List.{List}
+use mathlib.Core.Path.{sym, ap, _∙_, subst}
+use native.Mathlib.Omega.{arith}
+use Rattle.blocks.proofs.write_strips.Statement.{statement}
+use Rattle.blocks.proofs.write_strips.Tie as tie
+
+abbrev Inv-loop : tie.InvT-loop
+Inv-loop src mask n h out₀ size at₀ entry₀ k₀ out at entry k = Filling mask n (bodyFor mask n h src) out₀ out k at entry
+
+abbrev μ-loop : tie.MeasureT-loop
+μ-loop src mask n h out₀ size at₀ entry₀ k₀ out at entry k = n - k
+
+offset-size-requires : tie.Need-offset-size-requires Inv-loop μ-loop
+offset-size-requires c κs = search needs
+
+mul-at : tie.Need-mul-at Inv-loop μ-loop
+mul-at c = let k = offsets-few (c .before .before .before .args .mask) (c .before .before .before .args .n) (c .before .before .before .pre .0 .few) in let e = ap (λ (x : ℕ). x * c .before .before .before .args .n) (c .offset-size .ensures .0) in omega arith
+
+add-at : tie.Need-add-at Inv-loop μ-loop
+add-at c = let k = offsets-few (c .before .before .before .args .mask) (c .before .before .before .args .n) (c .before .before .before .pre .0 .few) in let e = ap (λ (x : ℕ). x * c .before .before .before .args .n) (c .offset-size .ensures .0) in omega arith
+
+loop-holds : tie.Need-loop-holds Inv-loop μ-loop
+loop-holds c =
+    let a = c .before .before .before .args in
+    subst (λ (k : ℕ). Filling (a .mask) (a .n) (bodyFor (a .mask) (a .n) (a .h) (now (a .src))) (now (a .out)) (now (a .out)) 0 (8 + k * a .n) 8) (sym (c .offset-size .ensures .0))
+    (filling-start (a .mask) (a .n) (bodyFor (a .mask) (a .n) (a .h) (now (a .src))) (now (a .out)) (c .before .before .before .pre .1))
+
+sub-write-body : tie.Need-sub-write-body Inv-loop μ-loop
+sub-write-body c = omega (arith, c .before .loop .inv .room)
+
+part-write-body-start : tie.Need-part-write-body-start Inv-loop μ-loop
+part-write-body-start c = omega (arith, c .before .loop .inv .room)
+
+part-write-body-end : tie.Need-part-write-body-end Inv-loop μ-loop
+part-write-body-end c = search needs
+
+write-body-requires : tie.Need-write-body-requires Inv-loop μ-loop
+write-body-requires c κs =
+    let a = c .before .before .before .before .before .before .args in
+    let l = c .before .before .loop in
+    let f : ℕ → List ℕ = bodyFor (a .mask) (a .n) (a .h) (now (a .src)) in
+    let r = body-room _ _ _ _ _ _ _ _ (l .inv) (c .before .loop-test .taken) in
+    let d = length-drop (l .at) (l .out) in
+    (c .before .before .before .before .before .before .pre .0, c .before .loop-test .taken, simp (length-take) (omega (arith, r, d)))
+
+offset-of-requires : tie.Need-offset-of-requires Inv-loop μ-loop
+offset-of-requires c κs = search needs
+
+put-offset-requires : tie.Need-put-offset-requires Inv-loop μ-loop
+put-offset-requires c κs =
+    let a = c .before .before .before .before .before .before .before .before .before .before .before .args in
+    let l = c .before .before .before .before .before .before .before .loop in
+    let f : ℕ → List ℕ = bodyFor (a .mask) (a .n) (a .h) (now (a .src)) in
+    let r = body-room _ _ _ _ _ _ _ _ (l .inv) (c .before .before .before .before .before .before .loop-test .taken) in
+    let e = put-mid (l .out) (l .at) (f (l .k)) _ (omega (arith, r)) (c .before .before .before .before .write-body .ensures .1) in
+    let k = offset-room _ _ _ _ _ _ _ _ (l .inv) (c .before .before .before .before .before .before .loop-test .taken) in
+    omega (arith, k, l .inv .far, r, ap length e ∙ put-length (l .out) (l .at) (f (l .k)) (omega (arith, r)))
+
+add-at-2 : tie.Need-add-at-2 Inv-loop μ-loop
+add-at-2 c =
+    let a = c .before .before .before .before .before .before .before .before .before .before .before .before .before .before .args in
+    let l = c .before .before .before .before .before .before .before .before .before .before .loop in
+    let f : ℕ → List ℕ = bodyFor (a .mask) (a .n) (a .h) (now (a .src)) in
+    let r = body-room _ _ _ _ _ _ _ _ (l .inv) (c .before .before .before .before .before .before .before .before .before .loop-test .taken) in
+    omega (arith, r, c .before .before .before .before .before .before .before .write-body .ensures .0)
+
+add-entry : tie.Need-add-entry Inv-loop μ-loop
+add-entry c =
+    let a = c .before .before .before .before .before .before .before .before .before .before .before .before .before .before .args in
+    let l = c .before .before .before .before .before .before .before .before .before .before .loop in
+    let f : ℕ → List ℕ = bodyFor (a .mask) (a .n) (a .h) (now (a .src)) in
+    let r = body-room _ _ _ _ _ _ _ _ (l .inv) (c .before .before .before .before .before .before .before .before .before .loop-test .taken) in
+    let k = offset-room _ _ _ _ _ _ _ _ (l .inv) (c .before .before .before .before .before .before .before .before .before .loop-test .taken) in
+    omega (arith, r, k, l .inv .far, c .before .before .before .before .before .before .before .before .before .before .before .offset-size .ensures .0)
+
+add-k : tie.Need-add-k Inv-loop μ-loop
+add-k c = omega arith
+
+loop-less : tie.Need-loop-less Inv-loop μ-loop
+loop-less c = omega arith
+
+loop-again : tie.Need-loop-again Inv-loop μ-loop
+loop-again c =
+    let a = c .before .before .before .before .before .before .before .before .before .before .before .before .before .before .args in
+    let l = c .before .before .before .before .before .before .before .before .before .before .loop in
+    let f : ℕ → List ℕ = bodyFor (a .mask) (a .n) (a .h) (now (a .src)) in
+    let r = body-room _ _ _ _ _ _ _ _ (l .inv) (c .before .before .before .before .before .before .before .before .before .loop-test .taken) in
+    let e = put-mid (l .out) (l .at) (f (l .k)) _ (omega (arith, r)) (c .before .before .before .before .before .before .before .write-body .ensures .1) in
+    let v = c .before .before .before .offset-of .result in
+    let o = c .before .before .put-offset .ensures ∙ ap (λ (q : List ℕ). putAt q (l .entry) (offsetBytes (a .mask) v)) e in
+    rw (o, c .before .before .before .before .before .before .before .write-body .ensures .0, c .before .before .before .before .before .before .before .before .before .before .before .offset-size .ensures .0)
+    (filling-more (a .mask) (a .n) f (now (a .out)) (l .out) (l .k) (l .at) (l .entry) (l .inv) (c .before .before .before .before .before .before .before .before .before .loop-test .taken) v (c .before .before .before .offset-of .ensures (f (l .k)) (c .before .before .before .before .before .before .before .write-body .ensures .0)))
+
+same-length : tie.Need-same-length Inv-loop μ-loop
+same-length c = c .before .loop .inv .whole
+
+returns : tie.Need-returns Inv-loop μ-loop
+returns c = filled _ _ _ _ _ _ _ _ (c .before .loop .inv) (c .loop-test .left) (omega arith)
+
+pub write-strips-spec : {M : Type 1} → statement M
+write-strips-spec =
+    tie.close
+    (tie.spec
+    Inv-loop
+    μ-loop
+    offset-size-requires
+    mul-at
+    add-at
+    loop-holds
+    sub-write-body
+    part-write-body-start
+    part-write-body-end
+    write-body-requires
+    offset-of-requires
+    put-offset-requires
+    add-at-2
+    add-entry
+    add-k
+    loop-less
+    loop-again
+    same-length
+    returns)

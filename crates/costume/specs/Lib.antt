@@ -1,0 +1,4 @@
+pub mod Limb
+pub mod Tick
+pub mod Record
+pub mod Start

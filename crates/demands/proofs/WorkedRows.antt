@@ -1,0 +1,73 @@
+-- Document 01's "Worked rows, proved together as a single table": each row is a computed test, and one theorem says that all hold.
+use mathlib.Core.Bool.{Bool, true, false, _&&_}
+use mathlib.Core.List.{List, [], _∷_, _++_}
+use Prim.Native.Nat.{ℕ}
+use lib.ListN.{replicate}
+use lib.Dec.{eqb, T}
+use Rattle.bits.specs.Bits.{lowBits, bitsOf}
+use Rattle.strip.specs.Strip.{Strip, refused, pixels, decode}
+use Rattle.strip.specs.Picture.{Picture, refusal, picture, fiveFrom, kindOf, placed, rawOf, codedOf, stripOf}
+use Rattle.plane.specs.Mask.{literals, rowsOf}
+use Rattle.table.specs.Table.{offsetAt}
+use Rattle.table.specs.Body.{bodyEnd, bodyOf, rowsAt}
+
+same : List ℕ → List ℕ → Bool
+same [] [] = true
+same [] (y ∷ ys) = false
+same (x ∷ xs) [] = false
+same (x ∷ xs) (y ∷ ys) = eqb x y && same xs ys
+
+-- what a row of the table says: a strip body of so many rows reads to these pixels, or is refused with this number; a mask body
+-- likewise; a ZP block of one strip reads to these rows
+data Row : Type 0 where
+  shows : ℕ → List ℕ → List ℕ → Row
+  refuses : ℕ → List ℕ → ℕ → Row
+  masks : ℕ → List ℕ → List ℕ → Row
+  refuses-mask : ℕ → List ℕ → ℕ → Row
+  plane : ℕ → (length : ℕ) → List ℕ → List ℕ → Row
+
+is-picture : Picture → List ℕ → Bool
+is-picture (refusal n) px = false
+is-picture (picture clear xs) px = same xs px
+
+is-refusal : Picture → ℕ → Bool
+is-refusal (refusal m) n = eqb m n
+is-refusal (picture clear xs) n = false
+
+is-rows : Strip → List ℕ → Bool
+is-rows (refused n) px = false
+is-rows (pixels xs) px = same xs px
+
+is-refused : Strip → ℕ → Bool
+is-refused (refused m) n = eqb m n
+is-refused (pixels xs) n = false
+
+holds : Row → Bool
+holds (shows h body px) = is-picture (stripOf h body) px
+holds (refuses h body n) = is-refusal (stripOf h body) n
+holds (masks h body px) = is-rows (rowsOf body h (literals 0)) px
+holds (refuses-mask h body n) = is-refused (rowsOf body h (literals 0)) n
+holds (plane h size block px) = is-rows (rowsAt 1 h block 0 size 0) px
+
+all-hold : List Row → Bool
+all-hold [] = true
+all-hold (r ∷ rs) = holds r && all-hold rs
+
+-- rows 1 to 9, in document 01's order; row 2 is a whole ZP01 block, whose only offset is 0
+rows : List Row
+rows =
+    masks 6 (0x83 ∷ 0x00 ∷ 0x03 ∷ 0x01 ∷ 0x02 ∷ 0x03 ∷ []) (0x00 ∷ 0x00 ∷ 0x00 ∷ 0x01 ∷ 0x02 ∷ 0x03 ∷ [])
+    ∷ plane 6 10 (0x5A ∷ 0x50 ∷ 0x30 ∷ 0x31 ∷ 0x00 ∷ 0x00 ∷ 0x00 ∷ 0x0A ∷ 0x00 ∷ 0x00 ∷ []) (replicate 6 0x00)
+    ∷ shows 2 (0x1C ∷ 0x05 ∷ 0xB6 ∷ 0x97 ∷ 0x00 ∷ 0x00 ∷ []) ((0x05 ∷ 0x05 ∷ 0x04 ∷ 0x03 ∷ 0x04 ∷ 0x09 ∷ []) ++ replicate 10 0x09)
+    ∷ shows 2 (0x11 ∷ 0x05 ∷ 0x80 ∷ 0xFC ∷ 0x00 ∷ []) (replicate 4 0x05 ++ replicate 4 0x7E ++ replicate 4 0x05 ++ replicate 4 0x7E)
+    ∷ shows 2 (0x1B ∷ 0x05 ∷ 0x80 ∷ 0xFC ∷ 0x00 ∷ []) (replicate 8 0x05 ++ replicate 8 0x7E)
+    ∷ shows 2 (0x44 ∷ 0x10 ∷ 0x63 ∷ 0x36 ∷ 0x00 ∷ []) (0x10 ∷ replicate 15 0x0C)
+    ∷ shows 1 (0x44 ∷ 0x02 ∷ 0x03 ∷ 0x00 ∷ []) (0x02 ∷ replicate 7 0xFE)
+    ∷ refuses 1 (0x1C ∷ 0x05 ∷ []) 7
+    ∷ shows 1 (0x1C ∷ 0x05 ∷ 0x00 ∷ []) (replicate 8 0x05)
+    ∷ refuses-mask 6 (0x87 ∷ 0x00 ∷ []) 8
+    ∷ []
+
+worked-rows : T (all-hold rows)
+unfolding rows all-hold holds is-picture is-refusal is-rows is-refused same stripOf rawOf codedOf placed kindOf fiveFrom decode lowBits bitsOf rowsOf offsetAt bodyEnd bodyOf rowsAt
+worked-rows = tt

@@ -1,0 +1,28 @@
+use mathlib.Core.Path.{refl}
+use Rattle.writer.proofs.BitWriterLaws.{flush-none, flush-one}
+use denote.Ref.{now}
+use native.Mathlib.Omega.{arith}
+use borrow.Author.Needs.{needs}
+use Rattle.writer.proofs.flush_byte.Statement.{statement}
+use Rattle.writer.proofs.flush_byte.Tie as tie
+
+returns : tie.Need-returns
+returns c = (flush-none _ _ (c .before .pre .0), refl, omega arith)
+
+cast-out : tie.Need-cast-out
+cast-out c = search needs
+
+slice-write-out : tie.Need-slice-write-out
+slice-write-out c = search needs
+
+add-t10 : tie.Need-add-t10
+add-t10 c = search needs
+
+same-length : tie.Need-same-length
+same-length c = search needs
+
+returns-2 : tie.Need-returns-2
+returns-2 c = (flush-one (now (c .before .args .out)) (c .before .args .writer) (c .before .pre .0) (c .if1 .left) (omega arith), omega arith, omega arith)
+
+pub flush-byte-spec : {M : Type 1} → statement M
+flush-byte-spec = tie.close (tie.spec returns cast-out slice-write-out add-t10 same-length returns-2)
