@@ -1,0 +1,37 @@
+-- An answer as one u64 for a C host: document 01's number in the low 32 bits, the value in the high 32. A refused call has the value 0.
+use Prim.Native.Nat.{ℕ, _+_, _*_}
+use Rattle.actor.specs.declared.Answer.{Answer}
+use Rattle.actor.specs.declared.Answer.the-variants as answer
+use Rattle.costume.specs.declared.Started.{Started}
+use Rattle.costume.specs.declared.Started.the-variants as started
+use Rattle.costume.specs.declared.Drawn.{Drawn}
+use Rattle.costume.specs.declared.Drawn.the-variants as drawn
+use Rattle.blocks.specs.declared.Wrote.{Wrote}
+use Rattle.blocks.specs.declared.Wrote.the-variants as wrote
+
+-- an accepted call's value
+abbrev pub valued : ℕ → ℕ
+valued value = value * 4294967296
+
+-- the hidden-pixel question: value 1 where the pixel is hidden, else 0
+abbrev pub hiddenWord : Answer → ℕ
+hiddenWord (answer.Refused n) = n
+hiddenWord answer.Shown = 0
+hiddenWord answer.Hidden = valued 1
+
+-- a start: value 1 where the animation is defined, else 0
+abbrev pub startedWord : Started → ℕ
+startedWord started.Set = valued 1
+startedWord started.Undefined = 0
+startedWord (started.Refused n) = n
+
+-- whether a limb draws: value 0 where it draws nothing, else 256 and the picture
+abbrev pub drawnWord : Drawn → ℕ
+drawnWord (drawn.Refused n) = n
+drawnWord drawn.Nothing = 0
+drawnWord (drawn.Picture p) = valued (256 + p)
+
+-- a writer: the value is the block's length
+abbrev pub wroteWord : Wrote → ℕ
+wroteWord (wrote.Block size) = valued size
+wroteWord (wrote.Refused n) = n
