@@ -103,6 +103,27 @@ def rows(h, body):
     return made
 
 
+def packed(made):
+    """The body of one mask strip, by the writing rule."""
+    out, y = b"", 0
+    while y < len(made):
+        run = next((n for n in range(1, 128) if y + n == len(made) or n == 127 or made[y + n] != made[y]))
+        if run >= 2:
+            out, y = out + bytes([0x80 + run, made[y]]), y + run
+            continue
+        n = 1
+        while n < 127 and y + n < len(made) and not (y + n + 1 < len(made) and made[y + n] == made[y + n + 1]):
+            n += 1
+        out, y = out + bytes([n]) + bytes(made[y:y + n]), y + n
+    return out
+
+
+def rewritten(h, body):
+    """A whole ZP01 block of one strip."""
+    again = packed(rows(h, body))
+    return b"ZP01" + (10 + len(again)).to_bytes(4, "big") + (10).to_bytes(2, "little") + again
+
+
 def line(read, h, text):
     try:
         return bytes(read(h, bytes.fromhex(text))).hex() + "\n"
@@ -118,7 +139,7 @@ BODY = "7FA53C965BE10F2DC378994217D4BB6601FE8D335AC629709EE714AB4D82F33865DA0CB1
 
 def main():
     out = "".join(line(*case) for case in WORKED)
-    out += line(rows, 200, SOURCE_000)
+    out += line(rows, 200, SOURCE_000) + line(rewritten, 200, SOURCE_000)
     out += "".join(line(pixels, 3, "%02X" % code + BODY) for code in range(256))
     open("crates/vectors/stdout", "w").write(out)
 

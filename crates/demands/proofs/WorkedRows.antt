@@ -10,6 +10,9 @@ use Rattle.strip.specs.Picture.{Picture, refusal, picture, fiveFrom, kindOf, pl
 use Rattle.plane.specs.Mask.{literals, rowsOf}
 use Rattle.table.specs.Table.{offsetAt}
 use Rattle.table.specs.Body.{bodyEnd, bodyOf, rowsAt}
+use Rattle.writer.specs.Pack.{packed}
+use Rattle.writer.specs.Pixels.{opBits, stepOf, opsBits, stripBody}
+use Rattle.writer.specs.Rows.{runLength, literalLength, opRows, opBytes, opsBytes, allZero, rowsBody}
 
 same : List ℕ → List ℕ → Bool
 same [] [] = true
@@ -18,13 +21,15 @@ same (x ∷ xs) [] = false
 same (x ∷ xs) (y ∷ ys) = eqb x y && same xs ys
 
 -- what a row of the table says: a strip body of so many rows reads to these pixels, or is refused with this number; a mask body
--- likewise; a ZP block of one strip reads to these rows
+-- likewise; a ZP block of one strip reads to these rows; these pixels, or mask rows, are written as this body
 data Row : Type 0 where
   shows : ℕ → List ℕ → List ℕ → Row
   refuses : ℕ → List ℕ → ℕ → Row
   masks : ℕ → List ℕ → List ℕ → Row
   refuses-mask : ℕ → List ℕ → ℕ → Row
   plane : ℕ → (length : ℕ) → List ℕ → List ℕ → Row
+  writes : List ℕ → List ℕ → Row
+  writes-mask : List ℕ → List ℕ → Row
 
 is-picture : Picture → List ℕ → Bool
 is-picture (refusal n) px = false
@@ -48,6 +53,8 @@ holds (refuses h body n) = is-refusal (stripOf h body) n
 holds (masks h body px) = is-rows (rowsOf body h (literals 0)) px
 holds (refuses-mask h body n) = is-refused (rowsOf body h (literals 0)) n
 holds (plane h size block px) = is-rows (rowsAt 1 h block 0 size 0) px
+holds (writes px body) = same (stripBody px) body
+holds (writes-mask px body) = same (rowsBody px) body
 
 all-hold : List Row → Bool
 all-hold [] = true
@@ -57,8 +64,10 @@ all-hold (r ∷ rs) = holds r && all-hold rs
 rows : List Row
 rows =
     masks 6 (0x83 ∷ 0x00 ∷ 0x03 ∷ 0x01 ∷ 0x02 ∷ 0x03 ∷ []) (0x00 ∷ 0x00 ∷ 0x00 ∷ 0x01 ∷ 0x02 ∷ 0x03 ∷ [])
+    ∷ writes-mask (0x00 ∷ 0x00 ∷ 0x00 ∷ 0x01 ∷ 0x02 ∷ 0x03 ∷ []) (0x83 ∷ 0x00 ∷ 0x03 ∷ 0x01 ∷ 0x02 ∷ 0x03 ∷ [])
     ∷ plane 6 10 (0x5A ∷ 0x50 ∷ 0x30 ∷ 0x31 ∷ 0x00 ∷ 0x00 ∷ 0x00 ∷ 0x0A ∷ 0x00 ∷ 0x00 ∷ []) (replicate 6 0x00)
     ∷ shows 2 (0x1C ∷ 0x05 ∷ 0xB6 ∷ 0x97 ∷ 0x00 ∷ 0x00 ∷ []) ((0x05 ∷ 0x05 ∷ 0x04 ∷ 0x03 ∷ 0x04 ∷ 0x09 ∷ []) ++ replicate 10 0x09)
+    ∷ writes ((0x05 ∷ 0x05 ∷ 0x04 ∷ 0x03 ∷ 0x04 ∷ 0x09 ∷ []) ++ replicate 10 0x09) (0x1C ∷ 0x05 ∷ 0xB6 ∷ 0x97 ∷ 0x00 ∷ 0x00 ∷ [])
     ∷ shows 2 (0x11 ∷ 0x05 ∷ 0x80 ∷ 0xFC ∷ 0x00 ∷ []) (replicate 4 0x05 ++ replicate 4 0x7E ++ replicate 4 0x05 ++ replicate 4 0x7E)
     ∷ shows 2 (0x1B ∷ 0x05 ∷ 0x80 ∷ 0xFC ∷ 0x00 ∷ []) (replicate 8 0x05 ++ replicate 8 0x7E)
     ∷ shows 2 (0x44 ∷ 0x10 ∷ 0x63 ∷ 0x36 ∷ 0x00 ∷ []) (0x10 ∷ replicate 15 0x0C)
@@ -69,5 +78,5 @@ rows =
     ∷ []
 
 worked-rows : T (all-hold rows)
-unfolding rows all-hold holds is-picture is-refusal is-rows is-refused same stripOf rawOf codedOf placed kindOf fiveFrom decode lowBits bitsOf rowsOf offsetAt bodyEnd bodyOf rowsAt
+unfolding rows all-hold holds is-picture is-refusal is-rows is-refused same stripOf rawOf codedOf placed kindOf fiveFrom decode lowBits bitsOf rowsOf offsetAt bodyEnd bodyOf rowsAt packed opBits stepOf opsBits stripBody runLength literalLength opRows opBytes opsBytes allZero rowsBody
 worked-rows = tt

@@ -3,6 +3,7 @@
 ghost use Prim.Native.Nat.{_≤_, _*_};
 ghost use lib.ListN.{length};
 
+use blocks::Wrote;
 use strip::{Answer, Made};
 
 fn bytes(values: &[u8]) {
@@ -58,10 +59,26 @@ fn worked() {
 
 // The worked example of source 000, 200 rows.
 fn source_000() {
-    rows(
-        200,
-        b"\x85\x00\x0F\x01\x0D\x03\x0D\x00\x40\x20\x04\x48\x84\x60\x80\x40\x04\x02\x83\x00\x02\x02\x05\x8F\x00\x01\x04\x85\x00\x05\x01\x20\x11\x02\x01\xFF\x00\x96\x00",
-    );
+    let body = b"\x85\x00\x0F\x01\x0D\x03\x0D\x00\x40\x20\x04\x48\x84\x60\x80\x40\x04\x02\x83\x00\x02\x02\x05\x8F\x00\x01\x04\x85\x00\x05\x01\x20\x11\x02\x01\xFF\x00\x96\x00";
+    rows(200, body);
+    rewritten(200, body);
+}
+
+// A plane of one strip of h rows, read from a body and written again as a whole ZP01 block.
+fn rewritten(h: usize, body: &[u8])
+    requires { ⌜ h ≤ 200 ⌝ }
+{
+    let mut read = [0u8; 200];
+    plane::mask_rows(body, h, &mut read);
+    let mut block = [0u8; 512];
+    match blocks::write_plane(&read, &mut block, 8, h as u32, 1) {
+        Wrote::Block(size) => {
+            if size <= 512 {
+                bytes(&block[..size]);
+            }
+        }
+        Wrote::Refused(number) => refused(number),
+    }
 }
 
 // One body under every byte as its code: the codes that are known, and what each reads to.

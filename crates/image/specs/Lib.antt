@@ -1,0 +1,4 @@
+pub mod Image
+pub mod Fault
+pub mod Pixel
+pub mod Gathered

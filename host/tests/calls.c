@@ -1,0 +1,186 @@
+/* Calls every function of include/kildegrom.h over the C interface: the sample room is loaded, written again block by block, loaded from
+ * what was written, and an actor is stamped behind its plane. Guard bytes stand around each lent buffer. */
+#include "kildegrom.h"
+
+#include <stdio.h>
+#include <stdlib.h>
+#include <string.h>
+
+enum { GUARD = 64, WIDTH = 320, HEIGHT = 144, STRIPS = WIDTH / 8 };
+
+static int checks;
+
+static void expect(int ok, const char *what)
+{
+    checks++;
+    if (!ok) {
+        fprintf(stderr, "calls: %s\n", what);
+        exit(1);
+    }
+}
+
+/* A buffer of `size` bytes of value `fill` with guard bytes on both sides. */
+struct lent {
+    uint8_t *all;
+    uint8_t *at;
+    size_t size;
+};
+
+static struct lent lend(size_t size, int fill)
+{
+    struct lent b;
+    b.all = (uint8_t *)malloc(size + 2 * GUARD);
+    expect(b.all != NULL, "out of memory");
+    memset(b.all, 0xA5, size + 2 * GUARD);
+    b.at = b.all + GUARD;
+    b.size = size;
+    memset(b.at, fill, size);
+    return b;
+}
+
+static void give_back(struct lent b)
+{
+    size_t i;
+    for (i = 0; i < GUARD; i++) {
+        expect(b.all[i] == 0xA5 && b.at[b.size + i] == 0xA5, "a byte outside a lent buffer was written");
+    }
+    free(b.all);
+}
+
+static int all(const uint8_t *bytes, size_t n, int value)
+{
+    size_t i;
+    for (i = 0; i < n; i++) {
+        if (bytes[i] != value) return 0;
+    }
+    return 1;
+}
+
+static struct lent read_file(const char *path)
+{
+    FILE *f = fopen(path, "rb");
+    struct lent b;
+    long n;
+    expect(f != NULL, "the room's file cannot be opened");
+    fseek(f, 0, SEEK_END);
+    n = ftell(f);
+    fseek(f, 0, SEEK_SET);
+    b = lend((size_t)n, 0);
+    expect(fread(b.at, 1, b.size, f) == b.size, "the room's file cannot be read");
+    fclose(f);
+    return b;
+}
+
+static void record_and_objects(struct lent room)
+{
+    struct lent record = lend(KG_RECORD_SIZE + 3, 0x77);
+    struct lent header = lend(KG_HEADER_SIZE, 0x77);
+    uint64_t name;
+    expect(kg_record(room.at, room.size, record.at, KG_RECORD_SIZE - 1) == KG_BUFFER_SHORT, "a record of 15 bytes");
+    expect(all(record.at, record.size, 0x77), "a refused record is unchanged");
+    expect(kg_record(room.at, room.size, record.at, record.size) == KG_ACCEPTED, "the record");
+    expect(kg_u16(record.at) == WIDTH && kg_u16(record.at + 2) == HEIGHT && kg_u16(record.at + 4) == 1 && kg_u16(record.at + 6) == 3, "the record's numbers");
+    expect(record.at[8] == 255 && all(record.at + 9, 7, 0) && all(record.at + 16, 3, 0x77), "the record's end");
+    expect(kg_record(room.at, room.size - 1, record.at, record.size) == KG_NOT_A_ROOM, "a room that is cut");
+    expect(kg_header(room.at, room.size, header.at, header.size, 0) == KG_NO_SUCH_OBJECT, "object 0");
+    expect(kg_header(room.at, room.size, header.at, header.size, 4) == KG_NO_SUCH_OBJECT, "object 4 of 3");
+    expect(kg_header(room.at, room.size, header.at, header.size, 0xFFFFFFFFu) == KG_NO_SUCH_OBJECT, "object 2^32 - 1");
+    expect(all(header.at, header.size, 0x77), "a refused header is unchanged");
+    expect(kg_header(room.at, room.size, header.at, header.size, 3) == KG_ACCEPTED, "object 3");
+    expect(kg_u16(header.at) == 103 && header.at[2] == 30 && kg_i16(header.at + 8) == -25 && kg_i16(header.at + 10) == 110, "the header");
+    name = kg_name(room.at, room.size, 1);
+    expect(kg_value(name) == 8 && memcmp(room.at + kg_number(name), "door@@@@", 8) == 0, "the name of object 1");
+    expect(kg_name_number(room.at, room.size, 1) == KG_ACCEPTED && kg_name_number(room.at, room.size, 9) == KG_NO_SUCH_OBJECT, "the name's number");
+    expect(kg_name(room.at, room.size, 9) == 0, "a refused name");
+    give_back(record);
+    give_back(header);
+}
+
+/* The room with its background and its plane written anew: a ROOM of RMHD, RMIM and nothing else. */
+static struct lent rewritten(struct lent room, struct lent pixels, struct lent masks)
+{
+    struct lent out = lend(room.size + 65536, 0);
+    uint8_t *at = out.at + 8 + 14 + 8 + 10 + 8;
+    uint64_t smap = kg_write_smap(pixels.at, pixels.size, at, out.size - 48, WIDTH, HEIGHT);
+    uint64_t zp = kg_write_plane(masks.at, masks.size, at + kg_value(smap), out.size - 48 - kg_value(smap), WIDTH, HEIGHT, 1);
+    uint32_t both = kg_value(smap) + kg_value(zp), k;
+    struct { const char *tag; uint32_t at, size; } heads[5] = {
+        { "ROOM", 0, 48 + both }, { "RMHD", 8, 14 }, { "RMIM", 22, 26 + both }, { "RMIH", 30, 10 }, { "IM00", 40, 8 + both } };
+    expect(kg_number(smap) == 0 && kg_number(zp) == 0 && memcmp(at, "SMAP", 4) == 0 && memcmp(at + kg_value(smap), "ZP01", 4) == 0, "the writers");
+    for (k = 0; k < 5; k++) {
+        uint8_t *b = out.at + heads[k].at;
+        memcpy(b, heads[k].tag, 4);
+        b[4] = (uint8_t)(heads[k].size >> 24);
+        b[5] = (uint8_t)(heads[k].size >> 16);
+        b[6] = (uint8_t)(heads[k].size >> 8);
+        b[7] = (uint8_t)heads[k].size;
+    }
+    memcpy(out.at + 16, room.at + 16, 6);
+    memcpy(out.at + 38, "\1\0", 2);
+    out.size = 48 + both;
+    memset(out.at + out.size, 0xA5, GUARD);
+    return out;
+}
+
+static void load_and_write(struct lent room)
+{
+    struct lent session = lend(KG_SESSION_SIZE + 5, 0x33), pixels = lend(WIDTH * HEIGHT, 1), masks = lend(STRIPS * HEIGHT, 2);
+    struct lent again = lend(WIDTH * HEIGHT, 3), masks_again = lend(STRIPS * HEIGHT, 4), copy;
+    expect(kg_load(room.at, room.size, session.at, session.size, pixels.at, pixels.size - 1, masks.at, masks.size) == KG_BUFFER_SHORT, "pixels one short");
+    expect(kg_load(room.at, room.size, session.at, KG_SESSION_SIZE - 1, pixels.at, pixels.size, masks.at, masks.size) == KG_BUFFER_SHORT, "a session one short");
+    expect(all(pixels.at, pixels.size, 1) && all(masks.at, masks.size, 2) && all(session.at, session.size, 0x33), "a refused load changes nothing");
+    expect(kg_load(room.at, room.size, session.at, session.size, pixels.at, pixels.size, masks.at, masks.size) == KG_ACCEPTED, "the load");
+    expect(all(session.at, KG_SESSION_SIZE, 0) && all(session.at + KG_SESSION_SIZE, 5, 0x33), "the emptied session");
+    expect(pixels.at[0] == 40 && pixels.at[16] == 42 && masks.at[90 * STRIPS] == 255 && masks.at[50 * STRIPS + 4] == 0x3C, "the surfaces");
+    copy = rewritten(room, pixels, masks);
+    expect(kg_load(copy.at, copy.size, session.at, session.size, again.at, again.size, masks_again.at, masks_again.size) == KG_ACCEPTED, "the load of what was written");
+    expect(memcmp(pixels.at, again.at, pixels.size) == 0 && memcmp(masks.at, masks_again.at, masks.size) == 0, "what was written reads back");
+    give_back(copy);
+    give_back(session);
+    give_back(again);
+    give_back(masks_again);
+
+    {   /* an actor of 8 by 8 pixels behind the plane's row of 255s, from row 88 on */
+        struct lent actor = lend(64, 9);
+        actor.at[0] = 255;
+        expect(kg_hidden(masks.at, masks.size, WIDTH, HEIGHT, 1, 1, 0, 90) == (uint64_t)1 << 32, "a hidden pixel");
+        expect(kg_hidden(masks.at, masks.size, WIDTH, HEIGHT, 1, 2, 0, 90) == 0 && kg_hidden(masks.at, masks.size, WIDTH, HEIGHT, 1, 0, 0, 90) == 0, "clips that name no plane");
+        expect(kg_hidden(masks.at, masks.size, WIDTH, HEIGHT, 1, 1, WIDTH, 0) == KG_POINT_OUTSIDE, "a point outside");
+        expect(kg_stamp(pixels.at, pixels.size, masks.at, masks.size, actor.at, actor.size, WIDTH, HEIGHT, 1, 8, 8, -4, 84, 1) == KG_ACCEPTED, "the stamp");
+        expect(pixels.at[84 * WIDTH] == 9 && pixels.at[87 * WIDTH + 3] == 9 && pixels.at[87 * WIDTH + 4] != 9 && pixels.at[88 * WIDTH] != 9, "the stamped frame");
+        expect(kg_stamp(pixels.at, pixels.size, masks.at, masks.size, actor.at, actor.size, WIDTH, HEIGHT, 1, 8, 8, INT32_MIN, INT32_MAX, 1) == KG_ACCEPTED, "a stamp far away");
+        expect(kg_stamp(pixels.at, pixels.size, masks.at, masks.size, actor.at, actor.size, WIDTH, HEIGHT, 1, 129, 8, 0, 0, 1) == KG_OUT_OF_SIZE, "a picture 129 wide");
+        give_back(actor);
+    }
+    give_back(pixels);
+    give_back(masks);
+}
+
+/* One record for limb 0: the window of two bytes from stream index 0; the stream is payload bytes 8 and 9. */
+static void costume(void)
+{
+    static const uint8_t payload[] = { 8, 0, 0x00, 0x80, 0, 0, 1, 0, 0x11, 0x79 };
+    struct lent limbs = lend(KG_LIMBS_SIZE, 0);
+    expect(kg_start(payload, sizeof payload, limbs.at, limbs.size - 1, 0, 1, 14, 0, 0) == KG_BUFFER_SHORT, "limbs one short");
+    expect(kg_start(payload, sizeof payload, limbs.at, limbs.size, 0, 1, 14, 0, 1) == KG_ANIMATION_WRONG, "a record past the count");
+    expect(kg_start(payload, sizeof payload, limbs.at, limbs.size, 0, 1, 14, 0, 0) == (uint64_t)1 << 32, "the start");
+    expect(kg_limb_draws(limbs.at, limbs.size, 0) == 0, "a limb draws nothing before its first tick");
+    expect(kg_tick(payload, sizeof payload, limbs.at, limbs.size, 14) == KG_ACCEPTED, "a tick");
+    expect(kg_limb_draws(limbs.at, limbs.size, 0) == (uint64_t)(256 + 0x11) << 32, "the picture");
+    expect(kg_tick(payload, sizeof payload, limbs.at, limbs.size, 14) == KG_ACCEPTED, "a second tick");
+    expect(kg_limb_draws(limbs.at, limbs.size, 0) == 0 && kg_limb_draws(limbs.at, limbs.size, 16) == KG_ANIMATION_WRONG, "a stopped limb");
+    give_back(limbs);
+}
+
+int main(int argc, char **argv)
+{
+    struct lent room;
+    expect(argc == 2, "usage: calls ROOM");
+    room = read_file(argv[1]);
+    record_and_objects(room);
+    load_and_write(room);
+    costume();
+    give_back(room);
+    printf("calls: %d checks passed\n", checks);
+    return 0;
+}
