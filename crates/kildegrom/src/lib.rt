@@ -14,10 +14,10 @@ ghost use Rattle.room.specs.Record.{recordTest, recordAfter};
 ghost use Rattle.room.specs.Object.{placeNumber, headerCall, headerAfter};
 ghost use Rattle.room.specs.Name.{namePlace, placeWord, nameNumber};
 ghost use Rattle.load.specs.Load.{loadTest, pixelsAfter, masksAfter, sessionAfter};
-
 use actor::Answer;
 use blocks::Wrote;
-use costume::{Drawn, Started};
+use costume::Drawn;
+use costume::Started;
 
 // The room's record.
 #[no_mangle]

@@ -2,9 +2,9 @@
 // strip of source 000, and each code of "Strips of pixels". The file stdout holds what they must be.
 ghost use Prim.Native.Nat.{_≤_, _*_};
 ghost use lib.ListN.{length};
-
 use blocks::Wrote;
-use strip::{Answer, Made};
+use strip::Answer;
+use strip::Made;
 
 fn bytes(values: &[u8]) {
     let mut i: usize = 0;
@@ -59,7 +59,8 @@ fn worked() {
 
 // The worked example of source 000, 200 rows.
 fn source_000() {
-    let body = b"\x85\x00\x0F\x01\x0D\x03\x0D\x00\x40\x20\x04\x48\x84\x60\x80\x40\x04\x02\x83\x00\x02\x02\x05\x8F\x00\x01\x04\x85\x00\x05\x01\x20\x11\x02\x01\xFF\x00\x96\x00";
+    let body =
+        b"\x85\x00\x0F\x01\x0D\x03\x0D\x00\x40\x20\x04\x48\x84\x60\x80\x40\x04\x02\x83\x00\x02\x02\x05\x8F\x00\x01\x04\x85\x00\x05\x01\x20\x11\x02\x01\xFF\x00\x96\x00";
     rows(200, body);
     rewritten(200, body);
 }
@@ -82,8 +83,7 @@ fn rewritten(h: usize, body: &[u8])
 }
 
 // One body under every byte as its code: the codes that are known, and what each reads to.
-fn codes(body: [u8; 40])
-{
+fn codes(body: [u8; 40]) {
     let mut code: usize = 0;
     while code < 256 {
         let mut coded = body;
