@@ -27,27 +27,10 @@ static void *ask(void *unused)
     return NULL;
 }
 
-/* Runs `ask` on a stack of its own and gives how many bytes of it were written. */
-static size_t stack_used(void)
-{
-    pthread_attr_t attr;
-    pthread_t thread;
-    uint8_t *stack;
-    size_t low = 0;
-    if (posix_memalign((void **)&stack, 4096, STACK) != 0) exit(1);
-    memset(stack, 0x5A, STACK);
-    pthread_attr_init(&attr);
-    pthread_attr_setstack(&attr, stack, STACK);
-    if (pthread_create(&thread, &attr, ask, NULL) != 0) exit(1);
-    pthread_join(thread, NULL);
-    while (low < STACK && stack[low] == 0x5A) low++;
-    free(stack);
-    return STACK - low;
-}
-
 static void *nothing(void *unused) { return unused; }
 
-static size_t stack_of_a_thread(void)
+/* Runs `work` on a stack of its own and gives how many bytes of it were written. */
+static size_t stack_used(void *(*work)(void *))
 {
     pthread_attr_t attr;
     pthread_t thread;
@@ -57,7 +40,7 @@ static size_t stack_of_a_thread(void)
     memset(stack, 0x5A, STACK);
     pthread_attr_init(&attr);
     pthread_attr_setstack(&attr, stack, STACK);
-    if (pthread_create(&thread, &attr, nothing, NULL) != 0) exit(1);
+    if (pthread_create(&thread, &attr, work, NULL) != 0) exit(1);
     pthread_join(thread, NULL);
     while (low < STACK && stack[low] == 0x5A) low++;
     free(stack);
@@ -75,7 +58,7 @@ static void head(uint8_t *at, const char *tag, uint32_t size)
 
 static void report(const char *what, uint32_t expected)
 {
-    size_t used = stack_used(), own = stack_of_a_thread();
+    size_t used = stack_used(ask), own = stack_used(nothing);
     size_t stack = used > own ? used - own : 0;
     printf("walk: %s: number %u, %.2f ms, about %zu bytes of stack\n", what, (unsigned)number, seconds * 1e3, stack);
     if (number != expected || stack > 8192) exit(1);
