@@ -10,7 +10,7 @@ use lib.ListN.{getD, length}
 use borrow.Author.Tests.{leb-true, le-leb, lt-leb, ne-eqb, eq-eqb}
 use Rattle.number.specs.Number.{be32}
 use Rattle.block.specs.Tag.{container}
-use Rattle.block.specs.Tree.{blockEnd, walk, run, blockOk, listOk, tagged, nthTag, findTag, needTag, payload, Inside, wellFormed, eachHas, hasIn, isAt, allOf}
+use Rattle.block.specs.Tree.{blockEnd, walk, run, blockOk, listOk, tagged, nthTag, findTag, needTag, payload, Inside, wellFormed, eachHas, isAt}
 use Rattle.block.specs.declared.Found.{Found}
 use Rattle.block.specs.declared.Found.the-variants.{At, Missing}
 

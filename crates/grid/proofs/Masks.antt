@@ -1,18 +1,18 @@
 -- The planes of a mask buffer as one grid, width strips wide and planes * h rows high. Assumes nothing.
-use mathlib.Core.Path.{_≡_, refl, sym, ap, _∙_}
-use mathlib.Core.Bool.{Bool, true, false, _&&_, false≢true}
+use mathlib.Core.Path.{_≡_, sym, ap, _∙_}
+use mathlib.Core.Bool.{true, false, _&&_, false≢true}
 use mathlib.Core.Logic.{by-cases}
 use mathlib.Core.List.{List}
 use native.Mathlib.Decide.{ℕ-discrete, decLt}
 use borrow.Author.Tests.{eq-eqb, ne-eqb}
 use lib.Dec.{eqb}
 use lib.ListN.{length, getD}
-use Prim.Native.Nat.{ℕ, _+_, _-_, _*_, _/_, _≤_, _<_}
+use Prim.Native.Nat.{ℕ, _+_, _-_, _*_, _≤_, _<_}
 use native.Mathlib.Nat.{mul-le-mul-right}
 use native.Mathlib.Omega.{arith}
 use Rattle.grid.specs.Grid.{pick, upd, within, boxed, Inside}
 use Rattle.grid.specs.Mask.{Plane}
-use Rattle.grid.proofs.Box.{spot, boxed-at, within-yes, within-lo, within-hi, within-cases}
+use Rattle.grid.proofs.Box.{boxed-at, within-yes, within-lo, within-hi, within-cases}
 
 pub plane-inside : (len width h planes k s y0 n : ℕ) → Plane len width h planes k s y0 n → Inside len width (planes * h) s ((k - 1) * h + y0) 1 n
 plane-inside len width h planes k s y0 n p =

@@ -2,25 +2,21 @@
 use mathlib.Core.Path.{_≡_, refl, sym, ap, ap₂, _∙_}
 use mathlib.Core.Bool.{true, false}
 use mathlib.Core.List.{List, _++_}
-use Prim.Native.Nat.{ℕ, suc, _+_, _-_, _*_, _/_, _%_, _≤_, _<_}
+use Prim.Native.Nat.{ℕ, _+_, _-_, _*_, _/_, _%_, _≤_}
 use native.Mathlib.Nat.{add-mul, one-mul}
 use native.Mathlib.Omega.{arith}
 use lib.Arith.{digits-div, digits-mod}
-use lib.ListN.{length, take, drop, replicate, length-replicate}
-use Rattle.block.specs.declared.Found.{Found}
-use Rattle.block.specs.declared.Found.the-variants.{At, Missing}
+use lib.ListN.{take, drop, replicate}
+use Rattle.block.specs.declared.Found.the-variants.{At}
 use Rattle.grid.specs.Grid.{upd, boxed}
 use Rattle.grid.proofs.Box.{box-below}
-use Rattle.strip.specs.Picture.{over}
 use Rattle.strip.proofs.PictureLaws.{over-of}
-use Rattle.table.specs.Body.{maskAt}
 use Rattle.table.specs.Test.{blockTest, leftmost}
 use Rattle.table.specs.declared.Test.the-variants.{Passed}
 use Rattle.paint.proofs.BlockLaws.{both-pass, leftmost-each}
-use Rattle.room.specs.Head.{Sound}
 use Rattle.room.specs.Test.{strips, planeIn, planeTest, picturesTest}
 use Rattle.room.specs.declared.Room.{Room}
-use Rattle.load.specs.Load.{sessionSize, mask, loadedPlane, emptied}
+use Rattle.load.specs.Load.{mask, loadedPlane, emptied}
 
 module _ (s : List ℕ) (r : Room) (passed : picturesTest s r ≡ Passed) where
   pub background-passes : blockTest false (strips r) (r .height) s (r .smap) (r .«smap_end») ≡ Passed

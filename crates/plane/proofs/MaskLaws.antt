@@ -1,6 +1,5 @@
 -- Laws of the rows of a mask strip.
-use mathlib.Core.Path.{_≡_, refl, sym, ap, ap₂, _∙_, subst}
-use mathlib.Core.Bool.{Bool, true, false}
+use mathlib.Core.Path.{_≡_, refl, sym, ap, ap₂, _∙_}
 use mathlib.Core.List.{List, [], _∷_, _++_, append-assoc, append-nil}
 use Prim.Native.Nat.{ℕ, zero, suc, _+_, _-_, _≤_, _<_}
 use native.Mathlib.Nat.{not-suc-le-zero}
@@ -9,10 +8,9 @@ use native.Mathlib.Omega.{arith}
 use borrow.Author.Tests.{lt-ltb, le-ltb}
 use lib.ListN.{length, take, drop, set, replicate, getD, replicate-append-replicate}
 use lib.Seq.{take-suc-set, drop-cons, drop-drop}
-use lib.Dec.{ltb}
 use Rattle.strip.specs.declared.Made.the-variants.{All}
 use Rattle.strip.specs.Strip.{Strip, refused, pixels, onto, glue, Filled}
-use Rattle.plane.specs.Mask.{Owed, literals, copies, Plan, past, owe, pick, planOf, rowsOf}
+use Rattle.plane.specs.Mask.{Owed, literals, copies, Plan, past, owe, planOf, rowsOf}
 
 pub plan-past-literals : (k op : ℕ) → op < 0x80 → k < op → planOf k op ≡ past
 plan-past-literals k op a b = rw (lt-ltb op 0x80 a, lt-ltb k op b)

@@ -1,5 +1,5 @@
 -- Laws of a room's head: where the needed blocks lie, and what holds of a room without the refusals 1 to 3.
-use mathlib.Core.Path.{_≡_, refl, sym, ap, _∙_, subst⁻¹}
+use mathlib.Core.Path.{_≡_, refl, subst⁻¹}
 use mathlib.Core.List.{List}
 use mathlib.Core.Bool.{Bool, true, false, _&&_, cond}
 use Prim.Native.Nat.{ℕ, _+_, _%_, _≤_}

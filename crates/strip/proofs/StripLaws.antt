@@ -2,19 +2,18 @@
 use mathlib.Core.Path.{_≡_, refl, sym, ap, ap₂, _∙_, subst}
 use mathlib.Core.Bool.{Bool, true, false}
 use mathlib.Core.List.{List, [], _∷_, _++_, append-assoc, append-nil}
-use Prim.Native.Nat.{ℕ, zero, suc, _+_, _-_, _*_, _/_, _%_, _^_, _≤_, _<_}
-use native.Mathlib.Nat.{not-suc-le-zero, sub-zero}
+use Prim.Native.Nat.{ℕ, zero, suc, _+_, _-_, _%_, _^_, _≤_, _<_}
+use native.Mathlib.Nat.{not-suc-le-zero}
 use native.Mathlib.Numerals.{add-one, sub-one}
 use native.Mathlib.Omega.{arith}
 use borrow.Author.Tests.{le-leb, lt-leb, eq-eqb, ne-eqb}
-use lib.ListN.{length, take, drop, set, length-append, length-set, take-append-drop}
-use lib.Seq.{take-suc-set, drop-set-lt, drop-drop, length-take-le}
-use lib.Dec.{leb, eqb}
+use lib.ListN.{length, take, drop, set}
+use lib.Seq.{take-suc-set, drop-set-lt, drop-drop}
 use Rattle.bits.specs.declared.Bit.{Bit}
 use Rattle.strip.specs.declared.Next.{Next}
 use Rattle.strip.specs.declared.Made.the-variants.{All}
-use Rattle.bits.specs.Bits.{Pull, short, got, pull, rest, Held, Popped}
-use Rattle.strip.specs.Strip.{plus, minus, Move, refuse, go, indexOp, walkOp, runOp, changeOp, opOf, measured, moveOf, Strip, refused, pixels, onto, glue, decode, Went, Filled}
+use Rattle.bits.specs.Bits.{got, pull, Popped}
+use Rattle.strip.specs.Strip.{plus, minus, Move, refuse, go, walkOp, runOp, changeOp, opOf, measured, moveOf, Strip, refused, pixels, onto, glue, decode, Went, Filled}
 
 pub told-bit : (s : List ℕ) (l : List Bool) {r r′ : Bit} → r ≡ r′ → Popped s l r → Popped s l r′
 told-bit s l e h = subst (λ r. Popped s l r) e h

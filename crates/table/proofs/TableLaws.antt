@@ -3,13 +3,12 @@ use mathlib.Core.Path.{_≡_, refl, sym, ap, _∙_}
 use mathlib.Core.Bool.{Bool, true, false, _&&_, cond, true≢false}
 use mathlib.Core.List.{List}
 use mathlib.Core.Logic.{by-cases}
-use Prim.Native.Nat.{ℕ, zero, suc, _+_, _-_, _*_, _≤_, _<_}
-use native.Mathlib.Nat.{not-suc-le-zero}
+use Prim.Native.Nat.{ℕ, zero, suc, _+_, _-_, _≤_, _<_}
 use native.Mathlib.Omega.{arith}
 use native.Mathlib.Decide.{ℕ-discrete}
 use borrow.Author.Tests.{leb-true, ltb-true, le-leb, lt-leb}
-use lib.Dec.{leb, ltb, eqb}
-use Rattle.table.specs.Table.{offsetSize, tableEnd, offsetAt, offsetRight, bodiless, offsetsRight, tableRight}
+use lib.Dec.{leb, ltb}
+use Rattle.table.specs.Table.{tableEnd, offsetAt, offsetRight, bodiless, offsetsRight, tableRight}
 
 pub and-left : (a b : Bool) → (a && b) ≡ true → a ≡ true
 and-left true b h = refl

@@ -4,14 +4,14 @@ use Prim.Native.Nat.{ℕ, zero, suc, _+_}
 use native.Mathlib.Omega.{arith}
 use mathlib.Core.Bool.{Bool}
 use mathlib.Core.List.{List}
-use Rattle.strip.specs.Strip.{Strip, refused, pixels, Filled}
+use Rattle.strip.specs.Strip.{Strip, Filled}
 use Rattle.strip.specs.Picture.{Picture, refusal, picture, answerOf}
 use Rattle.strip.specs.declared.Made.{Made}
 use Rattle.strip.specs.declared.Answer.the-variants.{Drawn}
 use Rattle.strip.specs.declared.Answer.the-variants as answer
 use Rattle.strip.specs.declared.Made.the-variants.{All}
 use Rattle.strip.specs.declared.Made.the-variants as made
-use Rattle.table.specs.Test.{andThen, leftmost, pictureTest, rowsTest}
+use Rattle.table.specs.Test.{leftmost, pictureTest, rowsTest}
 use Rattle.table.specs.declared.Test.{Test}
 use Rattle.table.specs.declared.Test.the-variants.{Passed, Refused}
 

@@ -2,43 +2,31 @@ use Rattle.block.proofs.Laws.{end-low, end-short, end-small, end-past, 
 use borrow.Author.Needs.{needs}
 use Rattle.block.proofs.block_end.Statement.{statement}
 use Rattle.block.proofs.block_end.Tie as tie
-use Rattle.block.proofs.block_end.Reads as reads
-use Rattle.block.proofs.block_end.Lts as lts
-use Rattle.number.proofs.read_be32.Reads as read-be32-reads
 
--- src/lib.rt:84:9
 returns : tie.Need-returns
 returns c = end-low _ _ _ (c .if1 .taken)
 
--- src/lib.rt:87:9
 returns-2 : tie.Need-returns-2
 returns-2 c = end-short _ _ _ (c .before .if1 .left) (c .if2 .taken)
 
--- src/lib.rt:89:26
 add-read-be32 : tie.Need-add-read-be32
 add-read-be32 c = search needs
 
--- src/lib.rt:89:9
 read-be32-requires : tie.Need-read-be32-requires
 read-be32-requires c κs = search needs
 
--- src/lib.rt:91:9
 returns-3 : tie.Need-returns-3
 returns-3 c = end-small _ _ _ _ (c .before .read-be32 .ensures) (c .if3 .taken)
 
--- src/lib.rt:93:12
 sub-if4 : tie.Need-sub-if4
 sub-if4 c = search needs
 
--- src/lib.rt:94:9
 returns-4 : tie.Need-returns-4
 returns-4 c = end-past _ _ _ _ (c .before .before .read-be32 .ensures) (search needs) (search needs)
 
--- src/lib.rt:96:5
 add-result : tie.Need-add-result
 add-result c = search needs
 
--- src/lib.rt:79:1
 returns-5 : tie.Need-returns-5
 returns-5 c = end-at _ _ _ _ (c .before .before .read-be32 .ensures) (search needs) (search needs) (search needs)
 

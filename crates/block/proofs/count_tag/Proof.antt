@@ -1,16 +1,12 @@
 use borrow.Author.Needs.{needs}
-use mathlib.Core.Path.{_≡_, ap, sym, _∙_}
+use mathlib.Core.Path.{_≡_, ap}
 use Prim.Native.Nat.{_+_, _-_, _≤_}
 use native.Mathlib.Omega.{arith}
 use lib.ListN.{length}
-use Rattle.block.specs.Tree.{countTag, tagged}
+use Rattle.block.specs.Tree.{countTag}
 use Rattle.block.proofs.Laws.{end-of, tagged-stop, tagged-here, tagged-on}
 use Rattle.block.proofs.count_tag.Statement.{statement}
 use Rattle.block.proofs.count_tag.Tie as tie
-use Rattle.block.proofs.count_tag.Reads as reads
-use Rattle.block.proofs.count_tag.Lts as lts
-use Rattle.block.proofs.block_end.Reads as block-end-reads
-use Rattle.number.proofs.read_be32.Reads as read-be32-reads
 
 abbrev Inv-loop : tie.InvT-loop
 Inv-loop s at end tag a₀ n₀ a n = (n ≤ a) × (n + countTag tag s a end ≡ countTag tag s at end)
@@ -18,52 +14,43 @@ Inv-loop s at end tag a₀ n₀ a n = (n ≤ a) × (n + countTag tag s a end ≡
 abbrev μ-loop : tie.MeasureT-loop
 μ-loop s at end tag a₀ n₀ a n = end - a
 
--- src/lib.rt:155:5
 loop-holds : tie.Need-loop-holds Inv-loop μ-loop
 loop-holds c = search needs
 
--- src/lib.rt:156:13
 block-end-requires : tie.Need-block-end-requires Inv-loop μ-loop
 block-end-requires c κs = search needs
 
--- src/lib.rt:158:13
 returns : tie.Need-returns Inv-loop μ-loop
 returns c =
     let none = ap length (tagged-stop (c .before .before .before .before .args .tag) _ _ _ _ (c .before .block-end .ensures) (c .if1 .taken)) in
     omega arith
 
--- src/lib.rt:160:12
 read-be32-requires : tie.Need-read-be32-requires Inv-loop μ-loop
 read-be32-requires c κs =
     let i = end-of _ _ _ _ (c .before .block-end .ensures) (c .if1 .left) in
     omega arith
 
--- src/lib.rt:161:13
 add-n : tie.Need-add-n Inv-loop μ-loop
 add-n c =
     let i = end-of _ _ _ _ (c .before .before .before .block-end .ensures) (c .before .before .if1 .left) in
     omega arith
 
--- src/lib.rt:155:5
 loop-less : tie.Need-loop-less Inv-loop μ-loop
 loop-less c =
     let i = end-of _ _ _ _ (c .before .before .before .block-end .ensures) (c .before .before .if1 .left) in
     omega arith
 
--- src/lib.rt:155:5
 loop-again : tie.Need-loop-again Inv-loop μ-loop
 loop-again c =
     let i = end-of _ _ _ _ (c .before .before .before .block-end .ensures) (c .before .before .if1 .left) in
     let one = ap length (tagged-here _ _ _ _ _ (c .before .before .before .block-end .ensures) (c .before .before .if1 .left) _ (c .before .read-be32 .ensures) (c .if2 .taken)) in
     omega arith
 
--- src/lib.rt:155:5
 loop-less-2 : tie.Need-loop-less-2 Inv-loop μ-loop
 loop-less-2 c =
     let i = end-of _ _ _ _ (c .before .before .before .block-end .ensures) (c .before .before .if1 .left) in
     omega arith
 
--- src/lib.rt:155:5
 loop-again-2 : tie.Need-loop-again-2 Inv-loop μ-loop
 loop-again-2 c =
     let i = end-of _ _ _ _ (c .before .before .before .block-end .ensures) (c .before .before .if1 .left) in

@@ -6,11 +6,6 @@ use Rattle.block.specs.Tree.{eachHas}
 use Rattle.block.proofs.Laws.{end-of, each-stop, each-on, each-has, each-not}
 use Rattle.block.proofs.each_has.Statement.{statement}
 use Rattle.block.proofs.each_has.Tie as tie
-use Rattle.block.proofs.each_has.Reads as reads
-use Rattle.block.proofs.each_has.Lts as lts
-use Rattle.block.proofs.block_end.Reads as block-end-reads
-use Rattle.block.proofs.has_tag.Reads as has-tag-reads
-use Rattle.number.proofs.read_be32.Reads as read-be32-reads
 
 abbrev Inv-loop : tie.InvT-loop
 Inv-loop s at end tag child n a₀ a = eachHas tag child n s a end ≡ eachHas tag child n s at end
@@ -18,61 +13,50 @@ Inv-loop s at end tag child n a₀ a = eachHas tag child n s a end ≡ eachHas t
 abbrev μ-loop : tie.MeasureT-loop
 μ-loop s at end tag child n a₀ a = end - a
 
--- src/lib.rt:243:5
 loop-holds : tie.Need-loop-holds Inv-loop μ-loop
 loop-holds c = search needs
 
--- src/lib.rt:244:13
 block-end-requires : tie.Need-block-end-requires Inv-loop μ-loop
 block-end-requires c κs = search needs
 
--- src/lib.rt:246:13
 returns : tie.Need-returns Inv-loop μ-loop
 returns c = each-stop _ _ _ _ _ _ _ (c .before .block-end .ensures) (c .if1 .taken) ∙ c .before .before .loop .inv
 
--- src/lib.rt:248:12
 read-be32-requires : tie.Need-read-be32-requires Inv-loop μ-loop
 read-be32-requires c κs =
     let i = end-of _ _ _ _ (c .before .block-end .ensures) (c .if1 .left) in
     omega arith
 
--- src/lib.rt:249:27
 add-has-tag : tie.Need-add-has-tag Inv-loop μ-loop
 add-has-tag c =
     let i = end-of _ _ _ _ (c .before .before .before .block-end .ensures) (c .before .before .if1 .left) in
     omega arith
 
--- src/lib.rt:249:16
 has-tag-requires : tie.Need-has-tag-requires Inv-loop μ-loop
 has-tag-requires c κs =
     let i = end-of _ _ _ _ (c .before .before .before .block-end .ensures) (c .before .before .if1 .left) in
     omega arith
 
--- src/lib.rt:243:5
 loop-less : tie.Need-loop-less Inv-loop μ-loop
 loop-less c =
     let i = end-of _ _ _ _ (c .before .before .before .before .before .block-end .ensures) (c .before .before .before .before .if1 .left) in
     omega arith
 
--- src/lib.rt:243:5
 loop-again : tie.Need-loop-again Inv-loop μ-loop
 loop-again c =
     each-has _ _ _ _ _ _ _ (c .before .before .before .before .before .block-end .ensures) (c .before .before .before .before .if1 .left) _ (c .before .before .before .read-be32 .ensures) (c .before .before .if2 .taken) _ (c .before .has-tag .ensures) (c .if3 .taken)
     ∙ c .before .before .before .before .before .before .loop .inv
 
--- src/lib.rt:252:17
 returns-2 : tie.Need-returns-2 Inv-loop μ-loop
 returns-2 c =
     each-not _ _ _ _ _ _ _ (c .before .before .before .before .before .block-end .ensures) (c .before .before .before .before .if1 .left) _ (c .before .before .before .read-be32 .ensures) (c .before .before .if2 .taken) _ (c .before .has-tag .ensures) (c .if3 .left)
     ∙ c .before .before .before .before .before .before .loop .inv
 
--- src/lib.rt:243:5
 loop-less-2 : tie.Need-loop-less-2 Inv-loop μ-loop
 loop-less-2 c =
     let i = end-of _ _ _ _ (c .before .before .before .block-end .ensures) (c .before .before .if1 .left) in
     omega arith
 
--- src/lib.rt:243:5
 loop-again-2 : tie.Need-loop-again-2 Inv-loop μ-loop
 loop-again-2 c =
     each-on _ _ _ _ _ _ _ (c .before .before .before .block-end .ensures) (c .before .before .if1 .left) _ (c .before .read-be32 .ensures) (c .if2 .left)

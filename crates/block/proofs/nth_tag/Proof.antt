@@ -1,19 +1,11 @@
 use borrow.Author.Needs.{needs}
-use mathlib.Core.Path.{_≡_, ap, sym, _∙_}
-use mathlib.Core.List.{List}
-use Prim.Native.Nat.{ℕ, _-_, _≤_}
+use mathlib.Core.Path.{_≡_, _∙_}
+use Prim.Native.Nat.{_-_}
 use native.Mathlib.Omega.{arith}
-use lib.ListN.{getD}
-use Rattle.block.specs.Tree.{nthTag, tagged}
-use Rattle.block.specs.declared.Found.{Found}
-use Rattle.block.specs.declared.Found.the-variants.{Missing}
+use Rattle.block.specs.Tree.{nthTag}
 use Rattle.block.proofs.Laws.{end-of, nth-stop, nth-here, nth-down, nth-on}
 use Rattle.block.proofs.nth_tag.Statement.{statement}
 use Rattle.block.proofs.nth_tag.Tie as tie
-use Rattle.block.proofs.nth_tag.Reads as reads
-use Rattle.block.proofs.nth_tag.Lts as lts
-use Rattle.block.proofs.block_end.Reads as block-end-reads
-use Rattle.number.proofs.read_be32.Reads as read-be32-reads
 
 abbrev Inv-loop : tie.InvT-loop
 Inv-loop s at end tag k a₀ left₀ a left = nthTag tag s a end left ≡ nthTag tag s at end k
@@ -21,54 +13,44 @@ Inv-loop s at end tag k a₀ left₀ a left = nthTag tag s a end left ≡ nthTag
 abbrev μ-loop : tie.MeasureT-loop
 μ-loop s at end tag k a₀ left₀ a left = end - a
 
--- src/lib.rt:156:5
 loop-holds : tie.Need-loop-holds Inv-loop μ-loop
 loop-holds c = search needs
 
--- src/lib.rt:157:13
 block-end-requires : tie.Need-block-end-requires Inv-loop μ-loop
 block-end-requires c κs = search needs
 
--- src/lib.rt:159:13
 returns : tie.Need-returns Inv-loop μ-loop
 returns c =
     nth-stop _ _ _ _ _ (c .before .block-end .ensures) _ (c .if1 .taken) ∙ c .before .before .loop .inv
 
--- src/lib.rt:161:12
 read-be32-requires : tie.Need-read-be32-requires Inv-loop μ-loop
 read-be32-requires c κs =
     let i = end-of _ _ _ _ (c .before .block-end .ensures) (c .if1 .left) in
     omega arith
 
--- src/lib.rt:163:17
 returns-2 : tie.Need-returns-2 Inv-loop μ-loop
 returns-2 c =
     nth-here _ _ _ _ _ (c .before .before .before .before .block-end .ensures) _ (c .before .before .before .if1 .left) _ (c .before .before .read-be32 .ensures) (c .before .if2 .taken) (c .if3 .taken)
     ∙ c .before .before .before .before .before .loop .inv
 
--- src/lib.rt:165:13
 sub-left : tie.Need-sub-left Inv-loop μ-loop
 sub-left c = search needs
 
--- src/lib.rt:156:5
 loop-less : tie.Need-loop-less Inv-loop μ-loop
 loop-less c =
     let i = end-of _ _ _ _ (c .before .before .before .before .block-end .ensures) (c .before .before .before .if1 .left) in
     omega arith
 
--- src/lib.rt:156:5
 loop-again : tie.Need-loop-again Inv-loop μ-loop
 loop-again c =
     nth-down _ _ _ _ _ (c .before .before .before .before .block-end .ensures) _ (c .before .before .before .if1 .left) _ (c .before .before .read-be32 .ensures) (c .before .if2 .taken) (c .if3 .left)
     ∙ c .before .before .before .before .before .loop .inv
 
--- src/lib.rt:156:5
 loop-less-2 : tie.Need-loop-less-2 Inv-loop μ-loop
 loop-less-2 c =
     let i = end-of _ _ _ _ (c .before .before .before .block-end .ensures) (c .before .before .if1 .left) in
     omega arith
 
--- src/lib.rt:156:5
 loop-again-2 : tie.Need-loop-again-2 Inv-loop μ-loop
 loop-again-2 c =
     nth-on _ _ _ _ _ (c .before .before .before .block-end .ensures) _ (c .before .before .if1 .left) _ (c .before .read-be32 .ensures) (c .if2 .left)

@@ -3,35 +3,24 @@ use Rattle.block.specs.Tree.{wellFormed}
 use borrow.Author.Needs.{needs}
 use Rattle.block.proofs.well_formed.Statement.{statement}
 use Rattle.block.proofs.well_formed.Tie as tie
-use Rattle.block.proofs.well_formed.Reads as reads
-use Rattle.block.proofs.well_formed.Lts as lts
-use Rattle.block.proofs.block_end.Reads as block-end-reads
-use Rattle.block.proofs.block_ok.Reads as block-ok-reads
-use Rattle.number.proofs.read_be32.Reads as read-be32-reads
 
--- src/lib.rt:122:9
 returns : tie.Need-returns
 unfolding wellFormed
 returns c = rw (lt-leb _ _ (c .if1 .taken))
 
--- src/lib.rt:125:9
 returns-2 : tie.Need-returns-2
 unfolding wellFormed
 returns-2 c = rw (le-leb _ _ (c .before .if1 .left), lt-leb _ _ (c .if2 .taken))
 
--- src/lib.rt:127:6
 read-be32-requires : tie.Need-read-be32-requires
 read-be32-requires c κs = search needs
 
--- src/lib.rt:127:34
 block-end-requires : tie.Need-block-end-requires
 block-end-requires c κs = search needs
 
--- src/lib.rt:127:61
 block-ok-requires : tie.Need-block-ok-requires
 block-ok-requires c κs = search needs
 
--- src/lib.rt:117:1
 returns-3 : tie.Need-returns-3
 unfolding wellFormed
 returns-3 c = simp (le-leb _ _ (c .before .before .before .before .if1 .left), le-leb _ _ (c .before .before .before .if2 .left)) (cc)

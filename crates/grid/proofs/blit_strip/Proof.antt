@@ -1,19 +1,14 @@
 -- `surface::blit_strip` meets its contract. Assumes nothing.
-use mathlib.Core.Path.{_≡_, refl, sym, ap, _∙_}
-use Prim.Native.Nat.{ℕ, _+_, _-_, _*_, _≤_, _<_}
+use mathlib.Core.Path.{_≡_, refl, _∙_}
+use Prim.Native.Nat.{_+_, _-_, _*_, _≤_, _<_}
 use native.Mathlib.Omega.{arith}
-use native.Mathlib.Nat.{add-assoc}
-use lib.ListN.{length, getD, length-set}
+use lib.ListN.{length, length-set}
 use borrow.Author.Needs.{needs}
 use Rattle.grid.specs.Grid.{upd, rowed, boxed}
 use Rattle.grid.specs.Strip.{stripOver}
-use Rattle.grid.proofs.Upd.{length-upd}
 use Rattle.grid.proofs.Box.{spot, row-none, row-write, box-none, box-more}
 use Rattle.grid.proofs.blit_strip.Statement.{statement}
 use Rattle.grid.proofs.blit_strip.Tie as tie
-use Rattle.grid.proofs.blit_strip.Reads as reads
-use Rattle.grid.proofs.blit_strip.Lts as lts
-use Rattle.grid.proofs.put_over.Reads as put-over-reads
 
 abbrev Inv-loop2 : tie.InvT-loop2
 Inv-loop2 pixels₀ w h s y0 strip rows transparent x0 r at from c₀ pixels c =

@@ -1,34 +1,24 @@
 use Rattle.room.proofs.ObjectLaws.{cdhd-at}
 use Rattle.room.specs.declared.Cdhd.{Cdhd}
 use Rattle.room.specs.Object.{cdhdAt}
-use Rattle.block.proofs.Laws.{nth-at, need-at}
-use lib.ListN.{length, getD}
+use lib.ListN.{getD}
 use denote.Ref.{now}
 use native.Mathlib.Omega.{arith}
-use Prim.Native.Nat.{ℕ, suc, _+_, _-_, _*_, _/_, _%_, _≤_, _<_}
-use mathlib.Core.Path.{_≡_, refl, sym, ap, _∙_}
+use Prim.Native.Nat.{_+_, _-_}
+use mathlib.Core.Path.{_≡_, sym, ap, _∙_}
 use borrow.Author.Needs.{needs}
 use Rattle.listing.proofs.object.Statement.{statement}
 use Rattle.listing.proofs.object.Tie as tie
-use Rattle.listing.proofs.object.Reads as reads
-use Rattle.listing.proofs.object.Lts as lts
-use Rattle.listing.proofs.object_line.Reads as object-line-reads
-use Rattle.room.proofs.object.cdhd_in.Reads as cdhd-in-reads
-use Rattle.room.proofs.object.read_cdhd.Reads as read-cdhd-reads
 
--- src/main.rt:59:11
 cdhd-in-requires : tie.Need-cdhd-in-requires
 cdhd-in-requires c κs = search needs
 
--- src/main.rt:60:19
 enum-known-p : tie.Need-enum-known-p
 enum-known-p c = search needs
 
--- src/main.rt:61:17
 read-cdhd-requires : tie.Need-read-cdhd-requires
 read-cdhd-requires c κs = cdhd-at _ _ _ _ (omega arith) (sym (c .before .p .given .1) ∙ c .before .before .before .cdhd-in .ensures)
 
--- src/main.rt:62:13
 object-line-requires : tie.Need-object-line-requires
 unfolding cdhdAt
 object-line-requires c κs =
@@ -45,11 +35,9 @@ object-line-requires c κs =
 enum-told : tie.Need-enum-told
 enum-told c = search needs
 
--- src/main.rt:56:1
 returns : tie.Need-returns
 returns c = search needs
 
--- src/main.rt:56:1
 returns-2 : tie.Need-returns-2
 returns-2 c = search needs
 

@@ -1,24 +1,14 @@
-use Rattle.load.proofs.LoadLaws.{background-passes, plane-passes, found-passes, rowOf, planes-more, emptied-of}
-use Rattle.load.specs.Load.{background, mask, foundMask, loadedPixels, loadedPlane, loadedMasks, emptied}
-use Rattle.room.proofs.TestLaws.{test-passes, surfaces-long}
-use Rattle.room.specs.Test.{strips, planeIn, roomTest}
-use Rattle.room.specs.Head.{Sound}
-use Rattle.block.proofs.Laws.{nth-at}
+use Rattle.load.proofs.LoadLaws.{plane-passes, rowOf, planes-more}
+use Rattle.load.specs.Load.{loadedMasks}
+use Rattle.room.specs.Test.{strips}
 use Rattle.grid.proofs.Box.{box-none}
 use Rattle.grid.specs.Grid.{upd, boxed}
-use lib.ListN.{length, take, drop, getD, set}
-use denote.Ref.{now}
-use borrow.Author.Needs.{needs}
-use native.Mathlib.Nat.{mul-le-mul-left, sub-zero}
+use lib.ListN.{length}
 use native.Mathlib.Omega.{arith}
-use Prim.Native.Nat.{ℕ, suc, _+_, _-_, _*_, _/_, _%_, _≤_, _<_}
-use mathlib.Core.List.{List, [], _∷_}
-use mathlib.Core.Path.{_≡_, refl, sym, ap, _∙_}
+use Prim.Native.Nat.{_+_, _-_, _*_, _≤_}
+use mathlib.Core.Path.{_≡_, refl, _∙_}
 use Rattle.load.proofs.load_masks.Statement.{statement}
 use Rattle.load.proofs.load_masks.Tie as tie
-use Rattle.load.proofs.load_masks.Reads as reads
-use Rattle.load.proofs.load_masks.Lts as lts
-use Rattle.load.proofs.load_plane.Reads as load-plane-reads
 
 abbrev Inv-loop : tie.InvT-loop
 Inv-loop room r masks₀ planes k₀ masks k = (1 ≤ k) × (k ≤ planes + 1) × (length masks ≡ length masks₀) × (masks ≡ upd (boxed (strips r) 0 0 (strips r) ((k - 1) * r .height) (rowOf room r)) masks₀)
@@ -26,36 +16,29 @@ Inv-loop room r masks₀ planes k₀ masks k = (1 ≤ k) × (k ≤ planes + 1) �
 abbrev μ-loop : tie.MeasureT-loop
 μ-loop room r masks₀ planes k₀ masks k = planes + 1 - k
 
--- src/lib.rt:61:5
 loop-holds : tie.Need-loop-holds Inv-loop μ-loop
 loop-holds c =
     let none : 0 ≡ 0 * c .before .before .args .r .height = omega arith in
     (omega arith, omega arith, refl, rw (← none) (box-none _ _ _ _ _ _))
 
--- src/lib.rt:62:9
 load-plane-requires : tie.Need-load-plane-requires Inv-loop μ-loop
 load-plane-requires c κs =
     let room : strips (c .before .before .before .before .before .args .r) * (c .before .before .before .before .before .args .r .planes * c .before .before .before .before .before .args .r .height) ≤ length (c .before .before .loop .masks) = omega (arith, c .before .before .before .before .before .pre .1 .1, c .before .before .loop .inv .2) in
     ((c .before .before .before .before .before .pre .0, c .before .before .loop .inv .0, c .before .loop-test .taken), (plane-passes _ _ (c .before .before .before .before .before .pre .1 .0) _ (c .before .before .loop .inv .0) (c .before .loop-test .taken), room))
 
--- src/lib.rt:63:9
 add-k : tie.Need-add-k Inv-loop μ-loop
 add-k c = omega arith
 
--- src/lib.rt:61:5
 loop-less : tie.Need-loop-less Inv-loop μ-loop
 loop-less c = omega arith
 
--- src/lib.rt:61:5
 loop-again : tie.Need-loop-again Inv-loop μ-loop
 loop-again c =
     (omega arith, omega arith, c .before .before .load-plane .kept .1 .1 .1 .0 ∙ c .before .before .before .before .before .loop .inv .2, planes-more _ _ _ _ _ _ (c .before .before .before .before .before .loop .inv .0) (c .before .before .before .before .before .loop .inv .3) (c .before .before .load-plane .ensures))
 
--- src/lib.rt:53:1
 same-length : tie.Need-same-length Inv-loop μ-loop
 same-length c = c .before .loop .inv .2
 
--- src/lib.rt:53:1
 returns : tie.Need-returns Inv-loop μ-loop
 unfolding loadedMasks
 returns c =

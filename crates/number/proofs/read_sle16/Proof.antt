@@ -1,5 +1,4 @@
-use mathlib.Core.Path.{_∙_, ap}
-use Prim.Native.Nat.{_+_, _-_}
+use Prim.Native.Nat.{_-_}
 use native.Mathlib.Omega.{arith}
 use borrow.Author.Tests.{lt-ltb, le-ltb}
 use mir.Syntax.{w32}
@@ -8,35 +7,25 @@ use Rattle.number.proofs.Signed.{neg-fits, neg-is}
 use borrow.Author.Needs.{needs}
 use Rattle.number.proofs.read_sle16.Statement.{statement}
 use Rattle.number.proofs.read_sle16.Tie as tie
-use Rattle.number.proofs.read_sle16.Reads as reads
-use Rattle.number.proofs.read_sle16.Lts as lts
-use Rattle.number.proofs.read_le16.Reads as read-le16-reads
 
--- src/lib.rt:35:9
 read-le16-requires : tie.Need-read-le16-requires
 read-le16-requires c κs = search needs
 
--- src/lib.rt:37:9
 cast-result : tie.Need-cast-result
 cast-result c = search needs
 
--- src/lib.rt:39:16
 sub-result : tie.Need-sub-result
 sub-result c = omega arith
 
--- src/lib.rt:39:15
 cast-result-2 : tie.Need-cast-result-2
 cast-result-2 c = search needs
 
--- src/lib.rt:39:9
 sub-result-2 : tie.Need-sub-result-2
 sub-result-2 c = neg-fits (65535 - c .before .read-le16 .result) (omega arith)
 
--- src/lib.rt:31:1
 returns : tie.Need-returns
 returns c = rw (← c .before .read-le16 .ensures .0, lt-ltb _ _ (c .if1 .taken)) (toZ-pos w32 _ (omega arith))
 
--- src/lib.rt:31:1
 returns-2 : tie.Need-returns-2
 returns-2 c = rw (← c .before .read-le16 .ensures .0, le-ltb _ _ (c .if1 .left)) (neg-is _ (omega arith))
 

@@ -1,5 +1,5 @@
 use mathlib.Core.Path.{_≡_, refl, sym, ap, _∙_}
-use mathlib.Core.List.{List, _++_, append-nil}
+use mathlib.Core.List.{_++_, append-nil}
 use Prim.Native.Nat.{ℕ, _+_, _-_, _≤_, _<_, zero-le}
 use native.Mathlib.Nat.{add-zero, le-antisymm}
 use native.Mathlib.Omega.{arith}
@@ -9,8 +9,6 @@ use Rattle.plane.proofs.MaskLaws.{fill-store}
 use Rattle.strip.proofs.StripLaws.{drop-store}
 use Rattle.plane.proofs.fill.Statement.{statement}
 use Rattle.plane.proofs.fill.Tie as tie
-use Rattle.plane.proofs.fill.Reads as reads
-use Rattle.plane.proofs.fill.Lts as lts
 
 abbrev Inv-loop : tie.InvT-loop
 Inv-loop out₀ from n b k₀ out k =
@@ -19,27 +17,21 @@ Inv-loop out₀ from n b k₀ out k =
 abbrev μ-loop : tie.MeasureT-loop
 μ-loop out₀ from n b k₀ out k = n - k
 
--- src/lib.rt:457:5
 loop-holds : tie.Need-loop-holds Inv-loop μ-loop
 loop-holds c = (zero-le, refl, refl, ap (λ (m : ℕ). take m (now (c .args .out))) (add-zero (c .args .from)) ∙ sym (append-nil _))
 
--- src/lib.rt:458:13
 add-out : tie.Need-add-out Inv-loop μ-loop
 add-out c = omega arith
 
--- src/lib.rt:458:9
 slice-write-out : tie.Need-slice-write-out Inv-loop μ-loop
 slice-write-out c = omega (arith, c .before .loop .inv .1)
 
--- src/lib.rt:459:9
 add-k : tie.Need-add-k Inv-loop μ-loop
 add-k c = omega arith
 
--- src/lib.rt:457:5
 loop-less : tie.Need-loop-less Inv-loop μ-loop
 loop-less c = omega arith
 
--- src/lib.rt:457:5
 loop-again : tie.Need-loop-again Inv-loop μ-loop
 loop-again c =
     let a = c .before .before .args in
@@ -52,11 +44,9 @@ loop-again c =
       fill-store (l .out) (now (a .out)) (a .from) (l .k) (a .b) room (l .inv .3),
     )
 
--- src/lib.rt:452:1
 same-length : tie.Need-same-length Inv-loop μ-loop
 same-length c = c .before .loop .inv .1
 
--- src/lib.rt:452:1
 returns : tie.Need-returns Inv-loop μ-loop
 returns c =
     let l = c .before .loop in

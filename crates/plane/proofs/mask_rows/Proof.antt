@@ -3,18 +3,14 @@ use mathlib.Core.List.{List, []}
 use Prim.Native.Nat.{ℕ, suc, _+_, _-_, _≤_, _<_, zero-le}
 use native.Mathlib.Nat.{sub-zero, le-antisymm}
 use native.Mathlib.Omega.{arith}
-use borrow.Author.Needs.{needs}
 use lib.ListN.{length, take, drop, getD, replicate, length-set, drop-of-length-le}
 use denote.Ref.{now}
 use Rattle.strip.specs.Strip.{glue}
-use Rattle.plane.specs.Mask.{Owed, literals, copies, rowsOf}
+use Rattle.plane.specs.Mask.{literals, copies, rowsOf}
 use Rattle.plane.proofs.MaskLaws.{plan-past-literals, plan-literals, plan-past-copies, plan-copies, rows-end, rows-literal, rows-op, rows-past, rows-copies, from-at, drop-more, rows-all}
 use Rattle.strip.proofs.StripLaws.{glue-none, glue-store, glue-glue, drop-store}
 use Rattle.plane.proofs.mask_rows.Statement.{statement}
 use Rattle.plane.proofs.mask_rows.Tie as tie
-use Rattle.plane.proofs.mask_rows.Reads as reads
-use Rattle.plane.proofs.mask_rows.Lts as lts
-use Rattle.plane.proofs.fill.Reads as fill-reads
 
 abbrev Inv-loop : tie.InvT-loop
 Inv-loop body h out₀ at₀ i₀ lit₀ out at i lit =
@@ -24,17 +20,14 @@ Inv-loop body h out₀ at₀ i₀ lit₀ out at i lit =
 abbrev μ-loop : tie.MeasureT-loop
 μ-loop body h out₀ at₀ i₀ lit₀ out at i lit = (h - i) + (length body - at)
 
--- src/lib.rt:471:5
 loop-holds : tie.Need-loop-holds Inv-loop μ-loop
 loop-holds c =
     let a = c .before .before .args in
     (zero-le, zero-le, refl, refl, glue-none _ ∙ ap (λ (n : ℕ). glue [] (rowsOf (now (a .body)) n (literals 0))) (sym (sub-zero (a .h))))
 
--- src/lib.rt:473:13
 same-length : tie.Need-same-length Inv-loop μ-loop
 same-length c = c .before .before .loop .inv .2
 
--- src/lib.rt:473:13
 returns : tie.Need-returns Inv-loop μ-loop
 returns c =
     let a = c .before .before .before .before .before .args in
@@ -44,31 +37,24 @@ returns c =
     let pos : 0 < n = omega arith in
     l .inv .4 ∙ ap (glue (take (l .i) (l .out))) (rows-end (drop (l .at) s) n (literals (l .lit)) pos (drop-of-length-le s (c .if1 .taken)))
 
--- src/lib.rt:475:17
 shared-slice-read-b : tie.Need-shared-slice-read-b Inv-loop μ-loop
 shared-slice-read-b c = omega arith
 
--- src/lib.rt:476:20
 add-next : tie.Need-add-next Inv-loop μ-loop
 add-next c = omega arith
 
--- src/lib.rt:478:13
 slice-write-out : tie.Need-slice-write-out Inv-loop μ-loop
 slice-write-out c = omega (arith, c .before .before .before .before .loop .inv .2)
 
--- src/lib.rt:479:13
 add-i : tie.Need-add-i Inv-loop μ-loop
 add-i c = omega arith
 
--- src/lib.rt:480:13
 sub-lit : tie.Need-sub-lit Inv-loop μ-loop
 sub-lit c = omega arith
 
--- src/lib.rt:471:5
 loop-less : tie.Need-loop-less Inv-loop μ-loop
 loop-less c = omega arith
 
--- src/lib.rt:471:5
 loop-again : tie.Need-loop-again Inv-loop μ-loop
 loop-again c =
     let a = c .before .before .before .before .before .before .before .args in
@@ -89,19 +75,15 @@ loop-again c =
           ∙ glue-store (l .out) (l .i) byte (rowsOf (drop (l .at + 1) s) (a .h - (l .i + 1)) (literals (l .lit - 1))) room,
     )
 
--- src/lib.rt:483:21
 cast-n : tie.Need-cast-n Inv-loop μ-loop
 cast-n c = omega (arith, c .before .before .shared-slice-known2 .given (c .before .before .before .before .before .loop .at))
 
--- src/lib.rt:484:16
 sub-if4 : tie.Need-sub-if4 Inv-loop μ-loop
 sub-if4 c = omega arith
 
--- src/lib.rt:485:17
 same-length-2 : tie.Need-same-length-2 Inv-loop μ-loop
 same-length-2 c = c .before .before .before .before .before .before .loop .inv .2
 
--- src/lib.rt:485:17
 returns-2 : tie.Need-returns-2 Inv-loop μ-loop
 returns-2 c =
     let a = c .before .before .before .before .before .before .before .before .before .args in
@@ -113,11 +95,9 @@ returns-2 c =
     let e = from-at s (l .at) (c .before .before .before .before .if1 .left) in
     l .inv .4 ∙ ap (glue (take (l .i) (l .out))) (rows-past (drop (l .at) s) (drop (l .at + 1) s) byte e n (l .lit) pos (c .before .before .if2 .left) (plan-past-literals n byte (c .before .if3 .taken) (c .if4 .taken)))
 
--- src/lib.rt:471:5
 loop-less-2 : tie.Need-loop-less-2 Inv-loop μ-loop
 loop-less-2 c = omega arith
 
--- src/lib.rt:471:5
 loop-again-2 : tie.Need-loop-again-2 Inv-loop μ-loop
 loop-again-2 c =
     let a = c .before .before .before .before .before .before .before .before .before .args in
@@ -134,19 +114,15 @@ loop-again-2 c =
       l .inv .4 ∙ ap (glue (take (l .i) (l .out))) (rows-op (drop (l .at) s) (drop (l .at + 1) s) byte e n (l .lit) (literals byte) pos (c .before .before .if2 .left) (plan-literals n byte (c .before .if3 .taken) (c .if4 .left))),
     )
 
--- src/lib.rt:490:21
 cast-n-2 : tie.Need-cast-n-2 Inv-loop μ-loop
 cast-n-2 c = omega (arith, c .before .before .shared-slice-known2 .given (c .before .before .before .before .before .loop .at))
 
--- src/lib.rt:491:16
 sub-if5 : tie.Need-sub-if5 Inv-loop μ-loop
 sub-if5 c = omega arith
 
--- src/lib.rt:492:17
 same-length-3 : tie.Need-same-length-3 Inv-loop μ-loop
 same-length-3 c = c .before .before .before .before .before .before .loop .inv .2
 
--- src/lib.rt:492:17
 returns-3 : tie.Need-returns-3 Inv-loop μ-loop
 returns-3 c =
     let a = c .before .before .before .before .before .before .before .before .before .args in
@@ -158,11 +134,9 @@ returns-3 c =
     let e = from-at s (l .at) (c .before .before .before .before .if1 .left) in
     l .inv .4 ∙ ap (glue (take (l .i) (l .out))) (rows-past (drop (l .at) s) (drop (l .at + 1) s) byte e n (l .lit) pos (c .before .before .if2 .left) (plan-past-copies n byte (c .before .if3 .left) (c .if5 .taken)))
 
--- src/lib.rt:495:17
 same-length-4 : tie.Need-same-length-4 Inv-loop μ-loop
 same-length-4 c = c .before .before .before .before .before .before .before .loop .inv .2
 
--- src/lib.rt:495:17
 returns-4 : tie.Need-returns-4 Inv-loop μ-loop
 returns-4 c =
     let a = c .before .before .before .before .before .before .before .before .before .before .args in
@@ -175,27 +149,21 @@ returns-4 c =
     l .inv .4 ∙ ap (glue (take (l .i) (l .out))) ((rows-op (drop (l .at) s) (drop (l .at + 1) s) byte e n (l .lit) (copies (byte - 0x80)) pos (c .before .before .before .if2 .left) (plan-copies n byte (c .before .before .if3 .left) (c .before .if5 .left)))
     ∙ rows-end (drop (l .at + 1) s) n (copies (byte - 0x80)) pos (drop-of-length-le s (c .if6 .taken)))
 
--- src/lib.rt:497:29
 shared-slice-read-fill : tie.Need-shared-slice-read-fill Inv-loop μ-loop
 shared-slice-read-fill c = omega arith
 
--- src/lib.rt:497:13
 fill-requires : tie.Need-fill-requires Inv-loop μ-loop
 fill-requires c κs = omega (arith, c .before .before .before .before .before .before .before .before .before .loop .inv .2)
 
--- src/lib.rt:498:13
 add-i-2 : tie.Need-add-i-2 Inv-loop μ-loop
 add-i-2 c = omega arith
 
--- src/lib.rt:499:18
 add-at : tie.Need-add-at Inv-loop μ-loop
 add-at c = omega arith
 
--- src/lib.rt:471:5
 loop-less-3 : tie.Need-loop-less-3 Inv-loop μ-loop
 loop-less-3 c = omega arith
 
--- src/lib.rt:471:5
 loop-again-3 : tie.Need-loop-again-3 Inv-loop μ-loop
 loop-again-3 c =
     let a = c .before .before .before .before .before .before .before .before .before .before .before .before .before .before .before .args in
@@ -225,11 +193,9 @@ loop-again-3 c =
           ∙ ap (λ (k : ℕ). glue (take (l .i + m) end) (rowsOf t (a .h - (l .i + m)) (literals k))) none,
     )
 
--- src/lib.rt:464:1
 same-length-5 : tie.Need-same-length-5 Inv-loop μ-loop
 same-length-5 c = c .before .loop .inv .2
 
--- src/lib.rt:464:1
 returns-5 : tie.Need-returns-5 Inv-loop μ-loop
 returns-5 c =
     let l = c .before .loop in

@@ -4,60 +4,44 @@ use mathlib.Core.Path.{_≡_, _∙_, ap, sym}
 use mathlib.Core.List.{List}
 use mathlib.Core.Bool.{Bool}
 use Prim.Native.Nat.{ℕ, _*_}
-use lib.ListN.{getD, drop, take}
+use lib.ListN.{getD, drop}
 use Rattle.bits.specs.Bits.{rest, bitsOf}
 use Rattle.strip.specs.Strip.{decode}
-use Rattle.strip.specs.Picture.{shown, over, placed}
+use Rattle.strip.specs.Picture.{shown, over}
 use Rattle.strip.proofs.PictureLaws.{answered-no, answered-yes, coded-none, coded-some, told-made, placed-take}
 use Rattle.strip.proofs.coded.Statement.{statement}
 use Rattle.strip.proofs.coded.Tie as tie
-use Rattle.strip.proofs.coded.Reads as reads
-use Rattle.strip.proofs.coded.Lts as lts
-use Rattle.bits.proofs.Cursor.new.Reads as new-reads
-use Rattle.strip.proofs.pixels_of.Reads as pixels-of-reads
-use Rattle.strip.proofs.place.Reads as place-reads
 
--- src/lib.rt:412:9
 returns : tie.Need-returns
 returns c = let a = c .before .before .before .args in answered-no _ _ _ (coded-none (a .second) (a .vertical) (a .clear) (a .w) (a .h) (now (a .body)) (c .if1 .taken))
 
--- src/lib.rt:417:17
 shared-slice-read-t14 : tie.Need-shared-slice-read-t14
 shared-slice-read-t14 c = search needs
 
--- src/lib.rt:419:14
 new-requires : tie.Need-new-requires
 new-requires c κs = search needs
 
--- src/lib.rt:421:38
 mul-pixels-of : tie.Need-mul-pixels-of
 mul-pixels-of c = search needs
 
--- src/lib.rt:421:51
 slice-aggregate-pixels-of : tie.Need-slice-aggregate-pixels-of
 slice-aggregate-pixels-of c = search needs
 
--- src/lib.rt:421:11
 pixels-of-requires : tie.Need-pixels-of-requires
 pixels-of-requires c κs = search needs
 
--- src/lib.rt:422:23
 enum-known-n : tie.Need-enum-known-n
 enum-known-n c = search needs
 
--- src/lib.rt:424:19
 enum-told : tie.Need-enum-told
 enum-told c = search needs
 
--- src/lib.rt:424:19
 slice-aggregate-place : tie.Need-slice-aggregate-place
 slice-aggregate-place c = search needs
 
--- src/lib.rt:424:13
 place-requires : tie.Need-place-requires
 place-requires c κs = search needs
 
--- src/lib.rt:407:1
 returns-2 : tie.Need-returns-2
 returns-2 c =
     let a = c .before .before .before .before .before .before .before .before .before .before .before .args in
@@ -68,11 +52,9 @@ returns-2 c =
     let x = coded-some (a .second) (a .vertical) (a .clear) (a .w) (a .h) s (c .before .before .before .before .before .before .before .before .if1 .left) ∙ ap (λ (l : List Bool). shown (a .vertical) (a .clear) (a .h) (decode (a .second) (a .w) (8 * a .h) 1 (getD s 1 0) 1 l)) bits in
     answered-no _ _ _ (x ∙ ap (shown (a .vertical) (a .clear) (a .h)) e)
 
--- src/lib.rt:407:1
 same-length : tie.Need-same-length
 same-length c = search needs
 
--- src/lib.rt:407:1
 returns-3 : tie.Need-returns-3
 returns-3 c =
     let a = c .before .before .before .before .before .before .before .before .before .before .before .before .before .before .before .args in

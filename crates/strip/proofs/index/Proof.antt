@@ -4,27 +4,19 @@ use Rattle.strip.specs.Strip.{indexOp}
 use Rattle.bits.proofs.BitLaws.{told}
 use Rattle.strip.proofs.index.Statement.{statement}
 use Rattle.strip.proofs.index.Tie as tie
-use Rattle.strip.proofs.index.Reads as reads
-use Rattle.strip.proofs.index.Lts as lts
-use Rattle.bits.proofs.Cursor.bits.Reads as bits-reads
 
--- src/lib.rt:109:11
 bits-requires : tie.Need-bits-requires
 bits-requires c κs = search needs
 
--- src/lib.rt:110:21
 enum-known-v : tie.Need-enum-known-v
 enum-known-v c = search needs
 
--- src/lib.rt:116:24
 enum-told : tie.Need-enum-told
 enum-told c = search needs
 
--- src/lib.rt:105:1
 returns : tie.Need-returns
 returns c = let e = told _ _ (c .before .v .given .1) (c .before .before .before .bits .ensures) in (ap indexOp (e .0), e .1)
 
--- src/lib.rt:105:1
 returns-2 : tie.Need-returns-2
 returns-2 c = ap indexOp (told _ _ (c .enum-told .given .1) (c .before .before .bits .ensures))
 

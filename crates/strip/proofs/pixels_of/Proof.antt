@@ -1,4 +1,4 @@
-use mathlib.Core.Path.{_≡_, refl, sym, ap, _∙_, subst}
+use mathlib.Core.Path.{_≡_, refl, sym, ap, _∙_}
 use Prim.Native.Nat.{ℕ, suc, _+_, _-_, _≤_, _<_, zero-le}
 use native.Mathlib.Nat.{sub-zero, le-antisymm}
 use native.Mathlib.Omega.{arith}
@@ -6,22 +6,11 @@ use borrow.Author.Needs.{needs}
 use lib.ListN.{length, take, drop, set, length-set}
 use denote.Ref.{now}
 use Rattle.bits.specs.Bits.{rest, Held}
-use Rattle.strip.specs.Strip.{decode, Filled, glue}
+use Rattle.strip.specs.Strip.{decode, glue}
 use Rattle.strip.proofs.StripLaws.{told-next, glue-none, glue-store, drop-store, decode-go, decode-stop, filled-all}
 use mathlib.Core.List.{[]}
-use Prim.Native.Nat.{ℕ, suc, _+_, _-_, _≤_, _<_, zero-le}
-use lib.ListN.{length, take, drop, set, length-set}
-use Prim.Native.Nat.{ℕ, suc, _+_, _-_, _≤_, _<_, zero-le}
-use lib.ListN.{length, take, drop, set, length-set}
-use Prim.Native.Nat.{ℕ, suc, _+_, _-_, _≤_, _<_, zero-le}
-use lib.ListN.{length, take, drop, set, length-set}
-use Prim.Native.Nat.{ℕ, suc, _+_, _-_, _≤_, _<_, zero-le}
-use lib.ListN.{length, take, drop, set, length-set}
 use Rattle.strip.proofs.pixels_of.Statement.{statement}
 use Rattle.strip.proofs.pixels_of.Tie as tie
-use Rattle.strip.proofs.pixels_of.Reads as reads
-use Rattle.strip.proofs.pixels_of.Lts as lts
-use Rattle.strip.proofs.advance.Reads as advance-reads
 
 abbrev Inv-loop : tie.InvT-loop
 Inv-loop body second w total out₀ st₀ i₀ out st i =
@@ -31,41 +20,32 @@ Inv-loop body second w total out₀ st₀ i₀ out st i =
 abbrev μ-loop : tie.MeasureT-loop
 μ-loop body second w total out₀ st₀ i₀ out st i = total - i
 
--- src/lib.rt:246:5
 loop-holds : tie.Need-loop-holds Inv-loop μ-loop
 loop-holds c =
     let a = c .before .before .args in
     (zero-le, c .before .before .pre .0, refl, refl, glue-none _ ∙ ap (λ (n : ℕ). glue [] (decode (a .second) (a .w) n (a .from .left) (a .from .colour) (a .from .step) (rest (now (a .body)) (a .from .cur)))) (sym (sub-zero (a .total))))
 
--- src/lib.rt:247:40
 sub-advance : tie.Need-sub-advance Inv-loop μ-loop
 sub-advance c = search needs
 
--- src/lib.rt:247:40
 sub-advance-2 : tie.Need-sub-advance-2 Inv-loop μ-loop
 sub-advance-2 c = omega arith
 
--- src/lib.rt:247:15
 advance-requires : tie.Need-advance-requires Inv-loop μ-loop
 advance-requires c κs = (c .before .loop .inv .1, search needs, search needs)
 
--- src/lib.rt:248:22
 enum-known-to : tie.Need-enum-known-to Inv-loop μ-loop
 enum-known-to c = search needs
 
--- src/lib.rt:249:17
 slice-write-out : tie.Need-slice-write-out Inv-loop μ-loop
 slice-write-out c = omega (arith, c .before .before .before .before .before .loop .inv .2)
 
--- src/lib.rt:251:17
 add-i : tie.Need-add-i Inv-loop μ-loop
 add-i c = omega arith
 
--- src/lib.rt:246:5
 loop-less : tie.Need-loop-less Inv-loop μ-loop
 loop-less c = omega arith
 
--- src/lib.rt:246:5
 loop-again : tie.Need-loop-again Inv-loop μ-loop
 loop-again c =
     let a = c .before .before .before .before .before .before .before .before .args in
@@ -86,15 +66,12 @@ loop-again c =
           ∙ ap (λ (n : ℕ). glue (take (i + 1) (set (l .out) i (to .colour))) (decode (a .second) (a .w) n (to .left) (to .colour) (to .step) (rest (now (a .body)) (to .cur)))) next,
     )
 
--- src/lib.rt:253:26
 enum-known-n : tie.Need-enum-known-n Inv-loop μ-loop
 enum-known-n c = search needs
 
--- src/lib.rt:254:17
 same-length : tie.Need-same-length Inv-loop μ-loop
 same-length c = c .before .before .before .before .before .loop .inv .2
 
--- src/lib.rt:254:17
 returns : tie.Need-returns Inv-loop μ-loop
 returns c =
     let a = c .before .before .before .before .before .before .before .before .args in
@@ -103,11 +80,9 @@ returns c =
     let more : a .total - l .i ≡ suc (a .total - l .i - 1) = omega arith in
     (l .inv .4 ∙ ap (glue (take (l .i) (l .out))) (decode-stop _ _ _ _ _ _ _ _ more _ e))
 
--- src/lib.rt:240:1
 same-length-2 : tie.Need-same-length-2 Inv-loop μ-loop
 same-length-2 c = c .before .loop .inv .2
 
--- src/lib.rt:240:1
 returns-2 : tie.Need-returns-2 Inv-loop μ-loop
 returns-2 c =
     let a = c .before .before .before .before .args in

@@ -4,31 +4,22 @@ use Rattle.strip.specs.Strip.{runOp}
 use Rattle.bits.proofs.BitLaws.{told}
 use Rattle.strip.proofs.run.Statement.{statement}
 use Rattle.strip.proofs.run.Tie as tie
-use Rattle.strip.proofs.run.Reads as reads
-use Rattle.strip.proofs.run.Lts as lts
-use Rattle.bits.proofs.Cursor.bits.Reads as bits-reads
 
--- src/lib.rt:150:11
 bits-requires : tie.Need-bits-requires
 bits-requires c κs = search needs
 
--- src/lib.rt:151:21
 enum-known-n : tie.Need-enum-known-n
 enum-known-n c = search needs
 
--- src/lib.rt:152:19
 cast-t9 : tie.Need-cast-t9
 cast-t9 c = search needs
 
--- src/lib.rt:157:24
 enum-told : tie.Need-enum-told
 enum-told c = search needs
 
--- src/lib.rt:146:1
 returns : tie.Need-returns
 returns c = let e = told _ _ (c .before .n .given .1) (c .before .before .before .bits .ensures) in (ap (runOp (c .before .before .before .before .before .args .colour) (c .before .before .before .before .before .args .step)) (e .0), e .1)
 
--- src/lib.rt:146:1
 returns-2 : tie.Need-returns-2
 returns-2 c = ap (runOp (c .before .before .before .before .args .colour) (c .before .before .before .before .args .step)) (told _ _ (c .enum-told .given .1) (c .before .before .bits .ensures))
 

@@ -7,40 +7,28 @@ use Rattle.strip.specs.Strip.{walkOp, go, minus}
 use Rattle.strip.proofs.StripLaws.{told-bit, minus-of}
 use Rattle.strip.proofs.walk.Statement.{statement}
 use Rattle.strip.proofs.walk.Tie as tie
-use Rattle.strip.proofs.walk.Reads as reads
-use Rattle.strip.proofs.walk.Lts as lts
-use Rattle.std.proofs.num.wrapping_sub_u8.Reads as wrapping-sub-u8-reads
-use Rattle.bits.proofs.Cursor.bit.Reads as bit-reads
 
--- src/lib.rt:125:11
 bit-requires : tie.Need-bit-requires
 bit-requires c κs = search needs
 
--- src/lib.rt:126:19
 enum-known-next : tie.Need-enum-known-next
 enum-known-next c = search needs
 
--- src/lib.rt:128:21
 wrapping-sub-u8-requires : tie.Need-wrapping-sub-u8-requires
 wrapping-sub-u8-requires c κs = search needs
 
--- src/lib.rt:132:18
 enum-known-next-2 : tie.Need-enum-known-next-2
 enum-known-next-2 c = search needs
 
--- src/lib.rt:133:17
 wrapping-sub-u8-requires-2 : tie.Need-wrapping-sub-u8-requires-2
 wrapping-sub-u8-requires-2 c κs = search needs
 
--- src/lib.rt:136:25
 wrapping-sub-u8-requires-3 : tie.Need-wrapping-sub-u8-requires-3
 wrapping-sub-u8-requires-3 c κs = search needs
 
--- src/lib.rt:141:21
 enum-told : tie.Need-enum-told
 enum-told c = search needs
 
--- src/lib.rt:121:1
 returns : tie.Need-returns
 returns c =
     let a = c .before .before .before .before .before .before .args in
@@ -49,7 +37,6 @@ returns c =
     let m : minus (a .colour) (a .step) ≡ c .wrapping-sub-u8 .result = minus-of _ _ _ (f .step .fits) (c .wrapping-sub-u8 .ok) (c .wrapping-sub-u8 .ensures) in
     (ap (walkOp (a .colour) (a .step)) (e .0) ∙ ap (λ (x : ℕ). go 0 x (a .step) (rest (now (a .body)) (c .before .before .next .given .0 .0))) m, e .1)
 
--- src/lib.rt:121:1
 returns-2 : tie.Need-returns-2
 returns-2 c =
     let a = c .before .before .before .before .before .before .before .args in
@@ -59,7 +46,6 @@ returns-2 c =
     let m : minus (a .colour) (c .before .wrapping-sub-u82 .result) ≡ c .wrapping-sub-u83 .result = minus-of _ _ _ (c .before .wrapping-sub-u82 .ok) (c .wrapping-sub-u83 .ok) (c .wrapping-sub-u83 .ensures) in
     (ap (walkOp (a .colour) (a .step)) (e .0) ∙ ap₂ (λ (x y : ℕ). go 0 x y (rest (now (a .body)) (c .before .before .before .next2 .given .0 .0))) (ap (minus (a .colour)) t ∙ m) t, e .1)
 
--- src/lib.rt:121:1
 returns-3 : tie.Need-returns-3
 returns-3 c = let a = c .before .before .before .before .args in ap (walkOp (a .colour) (a .step)) (told-bit _ _ (c .enum-told .given .1) (c .before .before .bit .ensures))
 

@@ -1,16 +1,12 @@
 use Rattle.table.proofs.BodyLaws.{end-none, end-here, end-on}
 use Rattle.table.specs.Body.{bodyEnd}
-use Rattle.table.specs.Table.{offsetSize, tableEnd, offsetAt}
-use borrow.Author.Needs.{needs}
+use Rattle.table.specs.Table.{offsetSize}
 use native.Mathlib.Nat.{mul-le-mul-left}
 use native.Mathlib.Omega.{arith}
-use Prim.Native.Nat.{ℕ, suc, _+_, _-_, _*_, _≤_, _<_}
-use mathlib.Core.Path.{_≡_, refl, sym, ap, _∙_}
+use Prim.Native.Nat.{suc, _+_, _-_, _≤_}
+use mathlib.Core.Path.{_≡_, refl, sym, _∙_}
 use Rattle.table.proofs.body_end.Statement.{statement}
 use Rattle.table.proofs.body_end.Tie as tie
-use Rattle.table.proofs.body_end.Reads as reads
-use Rattle.table.proofs.body_end.Lts as lts
-use Rattle.table.proofs.offset_at.Reads as offset-at-reads
 
 abbrev Inv-loop : tie.InvT-loop
 Inv-loop room mask n b z k j₀ j = (j ≤ n) × (bodyEnd mask room b z j (n - j) ≡ bodyEnd mask room b z k (n - k))
@@ -18,41 +14,33 @@ Inv-loop room mask n b z k j₀ j = (j ≤ n) × (bodyEnd mask room b z j (n - j
 abbrev μ-loop : tie.MeasureT-loop
 μ-loop room mask n b z k j₀ j = n - j
 
--- src/lib.rt:79:5
 loop-holds : tie.Need-loop-holds Inv-loop μ-loop
 loop-holds c = (omega arith, refl)
 
--- src/lib.rt:80:13
 offset-at-requires : tie.Need-offset-at-requires Inv-loop μ-loop
 offset-at-requires c κs =
     let cells = mul-le-mul-left (offsetSize (c .before .before .before .args .mask)) (c .loop-test .taken) in
     (omega arith, omega arith)
 
--- src/lib.rt:82:20
 add-result : tie.Need-add-result Inv-loop μ-loop
 add-result c = omega arith
 
--- src/lib.rt:82:13
 returns : tie.Need-returns Inv-loop μ-loop
 returns c =
     let more : c .before .before .before .before .before .args .n - c .before .before .before .loop .j ≡ suc (c .before .before .before .before .before .args .n - (c .before .before .before .loop .j + 1)) = omega arith in
     sym (end-here _ _ _ _ _ _ _ _ more (c .before .offset-at .ensures .0) (c .if1 .taken)) ∙ c .before .before .before .loop .inv .1
 
--- src/lib.rt:84:9
 add-j : tie.Need-add-j Inv-loop μ-loop
 add-j c = omega arith
 
--- src/lib.rt:79:5
 loop-less : tie.Need-loop-less Inv-loop μ-loop
 loop-less c = omega arith
 
--- src/lib.rt:79:5
 loop-again : tie.Need-loop-again Inv-loop μ-loop
 loop-again c =
     let more : c .before .before .before .before .before .args .n - c .before .before .before .loop .j ≡ suc (c .before .before .before .before .before .args .n - (c .before .before .before .loop .j + 1)) = omega arith in
     (omega arith, sym (end-on _ _ _ _ _ _ _ _ more (c .before .offset-at .ensures .0) (c .if1 .left)) ∙ c .before .before .before .loop .inv .1)
 
--- src/lib.rt:74:1
 returns-2 : tie.Need-returns-2 Inv-loop μ-loop
 returns-2 c = sym (end-none _ _ _ _ _ _ (omega arith)) ∙ c .before .loop .inv .1
 

@@ -1,55 +1,41 @@
 use native.Mathlib.Omega.{arith}
-use Rattle.table.specs.Table.{offsetSize, offsetAt}
+use Rattle.table.specs.Table.{offsetAt}
 use borrow.Author.Needs.{needs}
 use Rattle.table.proofs.offset_at.Statement.{statement}
 use Rattle.table.proofs.offset_at.Tie as tie
-use Rattle.table.proofs.offset_at.Reads as reads
-use Rattle.table.proofs.offset_at.Lts as lts
-use Rattle.number.proofs.read_le16.Reads as read-le16-reads
-use Rattle.number.proofs.read_le32.Reads as read-le32-reads
 
--- src/lib.rt:34:25
 add-read-le16 : tie.Need-add-read-le16
 add-read-le16 c = search needs
 
--- src/lib.rt:34:33
 mul-read-le16 : tie.Need-mul-read-le16
 mul-read-le16 c = search needs
 
--- src/lib.rt:34:25
 add-read-le16-2 : tie.Need-add-read-le16-2
 add-read-le16-2 c = search needs
 
--- src/lib.rt:34:9
 read-le16-requires : tie.Need-read-le16-requires
 read-le16-requires c κs =
     let room = rw (c .if1 .taken) at (c .before .before .pre .0) in
     omega arith
 
--- src/lib.rt:36:25
 add-read-le32 : tie.Need-add-read-le32
 add-read-le32 c = search needs
 
--- src/lib.rt:36:33
 mul-read-le32 : tie.Need-mul-read-le32
 mul-read-le32 c = search needs
 
--- src/lib.rt:36:25
 add-read-le32-2 : tie.Need-add-read-le32-2
 add-read-le32-2 c = search needs
 
--- src/lib.rt:36:9
 read-le32-requires : tie.Need-read-le32-requires
 read-le32-requires c κs =
     let room = rw (c .if1 .left) at (c .before .before .pre .0) in
     omega arith
 
--- src/lib.rt:29:1
 returns : tie.Need-returns
 unfolding offsetAt
 returns c = (rw (c .before .if1 .taken) (c .read-le16 .ensures .0), omega arith)
 
--- src/lib.rt:29:1
 returns-2 : tie.Need-returns-2
 unfolding offsetAt
 returns-2 c = (rw (c .before .if1 .left) (c .read-le32 .ensures .0), omega arith)

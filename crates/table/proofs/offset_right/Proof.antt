@@ -2,10 +2,7 @@ use mathlib.Core.Path.{refl}
 use Rattle.table.specs.Table.{offsetRight}
 use Rattle.table.proofs.offset_right.Statement.{statement}
 use Rattle.table.proofs.offset_right.Tie as tie
-use Rattle.table.proofs.offset_right.Reads as reads
-use Rattle.table.proofs.offset_right.Lts as lts
 
--- src/lib.rt:41:1
 returns : tie.Need-returns
 unfolding offsetRight
 returns c = refl

@@ -1,14 +1,8 @@
-use lib.ListN.{length, getD}
-use denote.Ref.{now}
 use borrow.Author.Needs.{needs}
 use native.Mathlib.Omega.{arith}
-use Prim.Native.Nat.{ℕ, suc, _+_, _-_, _*_, _/_, _%_, _≤_, _<_}
-use mathlib.Core.Path.{_≡_, refl, sym, ap, _∙_}
+use Prim.Native.Nat.{_-_, _≤_}
 use Rattle.vectors.proofs.codes.Statement.{statement}
 use Rattle.vectors.proofs.codes.Tie as tie
-use Rattle.vectors.proofs.codes.Reads as reads
-use Rattle.vectors.proofs.codes.Lts as lts
-use Rattle.vectors.proofs.pixels.Reads as pixels-reads
 
 abbrev Inv-loop : tie.InvT-loop
 Inv-loop body code₀ code = code ≤ 256
@@ -16,39 +10,30 @@ Inv-loop body code₀ code = code ≤ 256
 abbrev μ-loop : tie.MeasureT-loop
 μ-loop body code₀ code = 256 - code
 
--- src/main.rt:71:5
 loop-holds : tie.Need-loop-holds Inv-loop μ-loop
 loop-holds c = omega arith
 
--- src/main.rt:73:20
 cast-coded : tie.Need-cast-coded Inv-loop μ-loop
 cast-coded c = search needs
 
--- src/main.rt:73:9
 array-write-coded : tie.Need-array-write-coded Inv-loop μ-loop
 array-write-coded c = search needs
 
--- src/main.rt:74:19
 slice-aggregate-pixels : tie.Need-slice-aggregate-pixels Inv-loop μ-loop
 slice-aggregate-pixels c = search needs
 
--- src/main.rt:74:9
 pixels-requires : tie.Need-pixels-requires Inv-loop μ-loop
 pixels-requires c κs = omega arith
 
--- src/main.rt:75:9
 add-code : tie.Need-add-code Inv-loop μ-loop
 add-code c = omega arith
 
--- src/main.rt:71:5
 loop-less : tie.Need-loop-less Inv-loop μ-loop
 loop-less c = omega arith
 
--- src/main.rt:71:5
 loop-again : tie.Need-loop-again Inv-loop μ-loop
 loop-again c = omega arith
 
--- src/main.rt:68:1
 returns : tie.Need-returns Inv-loop μ-loop
 returns c = search needs
 

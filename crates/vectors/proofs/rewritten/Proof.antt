@@ -1,73 +1,52 @@
 use lib.ListN.{length-take}
 use native.Mathlib.Omega.{arith}
-use mathlib.Core.Path.{_≡_, refl, sym, ap, _∙_}
+use mathlib.Core.Path.{sym}
 use borrow.Author.Needs.{needs}
 use Rattle.vectors.proofs.rewritten.Statement.{statement}
 use Rattle.vectors.proofs.rewritten.Tie as tie
-use Rattle.vectors.proofs.rewritten.Reads as reads
-use Rattle.vectors.proofs.rewritten.Lts as lts
-use Rattle.blocks.proofs.write_plane.Reads as write-plane-reads
-use Rattle.plane.proofs.mask_rows.Reads as mask-rows-reads
-use Rattle.vectors.proofs.bytes.Reads as bytes-reads
-use Rattle.vectors.proofs.refused.Reads as refused-reads
 
--- src/main.rt:72:31
 slice-aggregate-mask-rows : tie.Need-slice-aggregate-mask-rows
 slice-aggregate-mask-rows c = search needs
 
--- src/main.rt:72:5
 mask-rows-requires : tie.Need-mask-rows-requires
 mask-rows-requires c κs = search needs
 
--- src/main.rt:74:31
 slice-aggregate-write-plane : tie.Need-slice-aggregate-write-plane
 slice-aggregate-write-plane c = search needs
 
--- src/main.rt:74:38
 slice-aggregate-write-plane-2 : tie.Need-slice-aggregate-write-plane-2
 slice-aggregate-write-plane-2 c = search needs
 
--- src/main.rt:74:53
 cast-write-plane : tie.Need-cast-write-plane
 cast-write-plane c = search needs
 
--- src/main.rt:74:11
 write-plane-requires : tie.Need-write-plane-requires
 write-plane-requires c κs = search needs
 
--- src/main.rt:75:22
 enum-known-size : tie.Need-enum-known-size
 enum-known-size c = search needs
 
--- src/main.rt:77:23
 array-share-prefix-block : tie.Need-array-share-prefix-block
 array-share-prefix-block c = search needs
 
--- src/main.rt:77:23
 slice-aggregate-bytes : tie.Need-slice-aggregate-bytes
 slice-aggregate-bytes c = sym (simp length-take (omega (arith, c .before .before .before .before .before .before .write-plane .kept .1 .0)))
 
--- src/main.rt:77:17
 bytes-requires : tie.Need-bytes-requires
 bytes-requires c κs = search needs
 
--- src/main.rt:80:24
 enum-known-number : tie.Need-enum-known-number
 enum-known-number c = search needs
 
--- src/main.rt:80:35
 refused-requires : tie.Need-refused-requires
 refused-requires c κs = search needs
 
--- src/main.rt:68:1
 returns : tie.Need-returns
 returns c = search needs
 
--- src/main.rt:68:1
 returns-2 : tie.Need-returns-2
 returns-2 c = search needs
 
--- src/main.rt:68:1
 returns-3 : tie.Need-returns-3
 returns-3 c = search needs
 

@@ -2,23 +2,16 @@ use borrow.Author.Needs.{needs}
 use Rattle.bits.proofs.BitLaws.{told, pull-zero, pull-one, pull-end}
 use Rattle.bits.proofs.Cursor.bit.Statement.{statement}
 use Rattle.bits.proofs.Cursor.bit.Tie as tie
-use Rattle.bits.proofs.Cursor.bit.Reads as reads
-use Rattle.bits.proofs.Cursor.bit.Lts as lts
-use Rattle.bits.proofs.Cursor.bits.Reads as bits-reads
 
--- src/lib.rt:75:15
 bits-requires : tie.Need-bits-requires
 bits-requires c κs = search needs
 
--- src/lib.rt:76:25
 enum-known-v : tie.Need-enum-known-v
 enum-known-v c = search needs
 
--- src/lib.rt:83:28
 enum-told : tie.Need-enum-told
 enum-told c = search needs
 
--- src/lib.rt:71:5
 returns : tie.Need-returns
 returns c =
     let e = told _ _ (c .before .before .v .given .1) (c .before .before .before .before .bits .ensures) in

@@ -5,73 +5,55 @@ use lib.Pow.{pow-pos}
 use Rattle.bits.proofs.BitLaws.{bits-enough, bits-refill, bits-none, size-of, cut-fits, byte-up, more-fits}
 use Rattle.bits.proofs.Cursor.bits.Statement.{statement}
 use Rattle.bits.proofs.Cursor.bits.Tie as tie
-use Rattle.bits.proofs.Cursor.bits.Reads as reads
-use Rattle.bits.proofs.Cursor.bits.Lts as lts
 
--- src/lib.rt:45:25
 shl-size : tie.Need-shl-size
 shl-size c = search needs
 
--- src/lib.rt:48:18
 rem-t10 : tie.Need-rem-t10
 rem-t10 c = let a = c .before .args in let le : a .n ≤ 8 = search needs in rw size-of (pow-pos (a .n))
 
--- src/lib.rt:48:17
 cast-t11 : tie.Need-cast-t11
 cast-t11 c = let a = c .before .args in let le : a .n ≤ 8 = search needs in rw size-of (record { fits = cut-fits _ _ le })
 
--- src/lib.rt:52:27
 shr-t13 : tie.Need-shr-t13
 shr-t13 c = search needs
 
--- src/lib.rt:47:13
 returns : tie.Need-returns
 returns c = let a = c .before .args in let le : a .n ≤ 8 = search needs in rw size-of (bits-enough _ (a .self) (a .n) (c .before .pre .0) (c .if1 .taken))
 
--- src/lib.rt:57:33
 shared-slice-read-more : tie.Need-shared-slice-read-more
 shared-slice-read-more c = search needs
 
--- src/lib.rt:57:33
 cast-more : tie.Need-cast-more
 cast-more c = omega (arith, c .shared-slice-known .given (c .before .before .before .args .self .at))
 
--- src/lib.rt:57:32
 shl-more : tie.Need-shl-more
 shl-more c = search needs
 
--- src/lib.rt:57:24
 add-more : tie.Need-add-more
 add-more c =
     let a = c .before .before .before .args in
     let held = c .before .before .before .pre .0 in
     rw (byte-up _ _ (held .few) (c .shared-slice-known .given (a .self .at))) (record { fits = more-fits (a .self) _ held (c .shared-slice-known .given (a .self .at)) })
 
--- src/lib.rt:59:18
 rem-t19 : tie.Need-rem-t19
 rem-t19 c = let a = c .before .before .before .args in let le : a .n ≤ 8 = search needs in rw size-of (pow-pos (a .n))
 
--- src/lib.rt:59:17
 cast-t18 : tie.Need-cast-t18
 cast-t18 c = let a = c .before .before .before .args in let le : a .n ≤ 8 = search needs in rw size-of (record { fits = cut-fits _ _ le })
 
--- src/lib.rt:61:25
 add-t21 : tie.Need-add-t21
 add-t21 c = search needs
 
--- src/lib.rt:62:27
 add-t20 : tie.Need-add-t20
 add-t20 c = search needs
 
--- src/lib.rt:62:27
 sub-t22 : tie.Need-sub-t22
 sub-t22 c = search needs
 
--- src/lib.rt:63:27
 shr-t23 : tie.Need-shr-t23
 shr-t23 c = search needs
 
--- src/lib.rt:38:5
 returns-2 : tie.Need-returns-2
 returns-2 c =
     let a = c .before .before .before .args in
@@ -80,7 +62,6 @@ returns-2 c =
     let byte = c .shared-slice-known .given (a .self .at) in
     rw (byte-up _ _ (held .few) byte, size-of) (bits-refill _ (a .self) (a .n) held (c .before .before .if1 .left) le (c .before .if2 .taken) (byte .fits))
 
--- src/lib.rt:38:5
 returns-3 : tie.Need-returns-3
 returns-3 c = bits-none _ (c .before .before .args .self) (c .before .before .args .n) (c .before .if1 .left) (c .if2 .left)
 

@@ -1,51 +1,36 @@
-use Rattle.room.proofs.HeadLaws.{parts-lie, head-sound}
-use Rattle.room.specs.Head.{backgroundIn, neededIn, objectsRight, roomOf, sizesRight, sized, headIn, headOf, Sound}
-use Rattle.block.proofs.Laws.{need-at, nth-at}
-use denote.Ref.{now}
-use borrow.Author.Tests.{eq-eqb, ne-eqb, not-true, not-false}
+use Rattle.room.specs.Head.{neededIn}
+use Rattle.block.proofs.Laws.{need-at}
 use native.Mathlib.Omega.{arith}
-use Prim.Native.Nat.{ℕ, _+_, _-_, _≤_, _<_}
-use mathlib.Core.Path.{_≡_, refl, sym, ap, _∙_}
+use Prim.Native.Nat.{_-_}
+use mathlib.Core.Path.{sym, _∙_}
 use borrow.Author.Needs.{needs}
 use Rattle.room.proofs.head.needed.Statement.{statement}
 use Rattle.room.proofs.head.needed.Tie as tie
-use Rattle.room.proofs.head.needed.Reads as reads
-use Rattle.room.proofs.head.needed.Lts as lts
-use Rattle.block.proofs.need_tag.Reads as need-tag-reads
-use Rattle.room.proofs.head.background.Reads as background-reads
 
--- src/head.rt:58:32
 need-tag-requires : tie.Need-need-tag-requires
 need-tag-requires c κs = search needs
 
--- src/head.rt:58:19
 enum-known-header : tie.Need-enum-known-header
 enum-known-header c = search needs
 
--- src/head.rt:59:9
 enum-told : tie.Need-enum-told
 enum-told c = search needs
 
--- src/head.rt:59:9
 returns : tie.Need-returns
 unfolding neededIn
 returns c =
     let none = sym (c .enum-told .given .1) ∙ c .before .before .need-tag .ensures in
     rw (← none)
 
--- src/head.rt:61:30
 need-tag-requires-2 : tie.Need-need-tag-requires-2
 need-tag-requires-2 c κs = search needs
 
--- src/head.rt:61:19
 enum-known-im : tie.Need-enum-known-im
 enum-known-im c = search needs
 
--- src/head.rt:62:9
 enum-told-2 : tie.Need-enum-told-2
 enum-told-2 c = search needs
 
--- src/head.rt:62:9
 returns-2 : tie.Need-returns-2
 unfolding neededIn
 returns-2 c =
@@ -53,13 +38,11 @@ returns-2 c =
     let none = sym (c .enum-told2 .given .1) ∙ c .before .before .need-tag2 .ensures in
     rw (← hd, ← none)
 
--- src/head.rt:64:5
 background-requires : tie.Need-background-requires
 background-requires c κs =
     let i = need-at _ _ _ _ _ _ _ (sym (c .before .im .given .1) ∙ c .before .before .before .need-tag2 .ensures) in
     omega arith
 
--- src/head.rt:54:1
 returns-3 : tie.Need-returns-3
 unfolding neededIn
 returns-3 c =

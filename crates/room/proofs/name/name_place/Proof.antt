@@ -1,65 +1,37 @@
-use Rattle.room.proofs.NameLaws.{nul-end, nul-here, nul-on, name-at}
-use Rattle.room.proofs.ObjectLaws.{object-at, place-in}
-use Rattle.room.specs.Name.{nulFrom, beforeNul, nameIn, nameAfter, namePlace, nameNumber}
-use Rattle.room.specs.Object.{cdhdAt, cdhdIn, objectBlock, headerPlace, headerBytes, placeNumber, headerAfter}
-use Rattle.room.specs.Record.{recordBytes, recordAfter, recordTest}
-use Rattle.room.specs.Test.{roomTest}
-use Rattle.block.proofs.Laws.{need-at, nth-at}
-use lib.ListN.{length, take, drop, getD, set}
-use mir.ValLaws.{toZ-ofZ}
-use mir.Syntax.{w32}
-use denote.Ref.{now}
-use borrow.Author.Tests.{eq-eqb, ne-eqb, not-true, not-false}
-use native.Mathlib.Nat.{mul-le-mul-left, sub-zero}
-use native.Mathlib.Omega.{arith}
-use Prim.Native.Nat.{ℕ, suc, _+_, _-_, _*_, _/_, _≤_, _<_}
-use mathlib.Core.List.{List, [], _∷_}
-use mathlib.Core.Path.{_≡_, refl, sym, ap, _∙_}
+use Rattle.room.proofs.ObjectLaws.{object-at}
+use Rattle.room.specs.Name.{nameIn, namePlace}
+use Prim.Native.Nat.{_-_}
+use mathlib.Core.Path.{sym, _∙_}
 use borrow.Author.Needs.{needs}
 use Rattle.room.proofs.name.name_place.Statement.{statement}
 use Rattle.room.proofs.name.name_place.Tie as tie
-use Rattle.room.proofs.name.name_place.Reads as reads
-use Rattle.room.proofs.name.name_place.Lts as lts
-use Rattle.room.proofs.name.name_in.Reads as name-in-reads
-use Rattle.room.proofs.object.object_block.Reads as object-block-reads
-use Rattle.room.proofs.test.nothing_lent.Reads as nothing-lent-reads
-use Rattle.room.proofs.test.test_room.Reads as test-room-reads
 
--- src/name.rt:47:24
 nothing-lent-requires : tie.Need-nothing-lent-requires
 nothing-lent-requires c κs = search needs
 
--- src/name.rt:47:11
 test-room-requires : tie.Need-test-room-requires
 test-room-requires c κs = search needs
 
--- src/name.rt:48:35
 enum-told : tie.Need-enum-told
 enum-told c = search needs
 
--- src/name.rt:48:35
 object-block-requires : tie.Need-object-block-requires
 object-block-requires c κs = search needs
 
--- src/name.rt:49:23
 enum-known-b : tie.Need-enum-known-b
 enum-known-b c = search needs
 
--- src/name.rt:49:32
 name-in-requires : tie.Need-name-in-requires
 name-in-requires c κs =
     let i = object-at _ _ _ _ (sym (c .before .b .given .1) ∙ c .before .before .before .object-block .ensures) in
     (i .1, i .2)
 
--- src/name.rt:50:31
 enum-told-2 : tie.Need-enum-told-2
 enum-told-2 c = search needs
 
--- src/name.rt:52:31
 enum-told-3 : tie.Need-enum-told-3
 enum-told-3 c = search needs
 
--- src/name.rt:44:1
 returns : tie.Need-returns
 unfolding namePlace
 returns c =
@@ -67,7 +39,6 @@ returns c =
     let block = sym (c .before .before .b .given .1) ∙ c .before .before .before .before .object-block .ensures in
     rw (← c .before .before .before .before .before .before .before .before .nothing-lent .ensures, ← right, ← block) (c .name-in .ensures)
 
--- src/name.rt:44:1
 returns-2 : tie.Need-returns-2
 unfolding namePlace nameIn
 returns-2 c =
@@ -75,7 +46,6 @@ returns-2 c =
     let none = sym (c .enum-told2 .given .1) ∙ c .before .before .object-block .ensures in
     rw (← c .before .before .before .before .before .before .nothing-lent .ensures, ← right, ← none)
 
--- src/name.rt:44:1
 returns-3 : tie.Need-returns-3
 unfolding namePlace
 returns-3 c =

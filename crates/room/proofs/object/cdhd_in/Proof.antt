@@ -1,50 +1,26 @@
-use Rattle.room.proofs.NameLaws.{nul-end, nul-here, nul-on, name-at}
-use Rattle.room.proofs.ObjectLaws.{object-at, place-in}
-use Rattle.room.specs.Name.{nulFrom, beforeNul, nameIn, nameAfter, namePlace, nameNumber}
-use Rattle.room.specs.Object.{cdhdAt, cdhdIn, objectBlock, headerPlace, headerBytes, placeNumber, headerAfter}
-use Rattle.room.specs.Record.{recordBytes, recordAfter, recordTest}
-use Rattle.room.specs.Test.{roomTest}
-use Rattle.block.proofs.Laws.{need-at, nth-at}
-use lib.ListN.{length, take, drop, getD, set}
-use mir.ValLaws.{toZ-ofZ}
-use mir.Syntax.{w32}
-use denote.Ref.{now}
-use borrow.Author.Tests.{eq-eqb, ne-eqb, not-true, not-false}
-use native.Mathlib.Nat.{mul-le-mul-left, sub-zero}
-use native.Mathlib.Omega.{arith}
-use Prim.Native.Nat.{ℕ, suc, _+_, _-_, _*_, _/_, _≤_, _<_}
-use mathlib.Core.List.{List, [], _∷_}
-use mathlib.Core.Path.{_≡_, refl, sym, ap, _∙_}
+use Prim.Native.Nat.{_-_}
+use mathlib.Core.Path.{sym, _∙_}
 use borrow.Author.Needs.{needs}
 use Rattle.room.proofs.object.cdhd_in.Statement.{statement}
 use Rattle.room.proofs.object.cdhd_in.Tie as tie
-use Rattle.room.proofs.object.cdhd_in.Reads as reads
-use Rattle.room.proofs.object.cdhd_in.Lts as lts
-use Rattle.block.proofs.need_tag.Reads as need-tag-reads
 
--- src/object.rt:62:23
 add-need-tag : tie.Need-add-need-tag
 add-need-tag c = search needs
 
--- src/object.rt:62:11
 need-tag-requires : tie.Need-need-tag-requires
 need-tag-requires c κs = search needs
 
--- src/object.rt:63:19
 enum-known-p : tie.Need-enum-known-p
 enum-known-p c = search needs
 
--- src/object.rt:64:27
 enum-told : tie.Need-enum-told
 enum-told c = search needs
 
--- src/object.rt:58:1
 returns : tie.Need-returns
 returns c =
     let p = sym (c .before .p .given .1) ∙ c .before .before .before .need-tag .ensures in
     rw (← p)
 
--- src/object.rt:58:1
 returns-2 : tie.Need-returns-2
 returns-2 c =
     let none = sym (c .enum-told .given .1) ∙ c .before .before .need-tag .ensures in

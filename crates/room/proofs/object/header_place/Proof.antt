@@ -1,60 +1,34 @@
-use Rattle.room.proofs.NameLaws.{nul-end, nul-here, nul-on, name-at}
-use Rattle.room.proofs.ObjectLaws.{object-at, place-in}
-use Rattle.room.specs.Name.{nulFrom, beforeNul, nameIn, nameAfter, namePlace, nameNumber}
-use Rattle.room.specs.Object.{cdhdAt, cdhdIn, objectBlock, headerPlace, headerBytes, placeNumber, headerAfter}
-use Rattle.room.specs.Record.{recordBytes, recordAfter, recordTest}
-use Rattle.room.specs.Test.{roomTest}
-use Rattle.block.proofs.Laws.{need-at, nth-at}
-use lib.ListN.{length, take, drop, getD, set}
-use mir.ValLaws.{toZ-ofZ}
-use mir.Syntax.{w32}
-use denote.Ref.{now}
-use borrow.Author.Tests.{eq-eqb, ne-eqb, not-true, not-false}
-use native.Mathlib.Nat.{mul-le-mul-left, sub-zero}
-use native.Mathlib.Omega.{arith}
-use Prim.Native.Nat.{ℕ, suc, _+_, _-_, _*_, _/_, _≤_, _<_}
-use mathlib.Core.List.{List, [], _∷_}
-use mathlib.Core.Path.{_≡_, refl, sym, ap, _∙_}
+use Rattle.room.proofs.ObjectLaws.{object-at}
+use Rattle.room.specs.Object.{headerPlace}
+use Prim.Native.Nat.{_-_}
+use mathlib.Core.Path.{sym, _∙_}
 use borrow.Author.Needs.{needs}
 use Rattle.room.proofs.object.header_place.Statement.{statement}
 use Rattle.room.proofs.object.header_place.Tie as tie
-use Rattle.room.proofs.object.header_place.Reads as reads
-use Rattle.room.proofs.object.header_place.Lts as lts
-use Rattle.room.proofs.object.cdhd_in.Reads as cdhd-in-reads
-use Rattle.room.proofs.object.object_block.Reads as object-block-reads
-use Rattle.room.proofs.test.test_room.Reads as test-room-reads
 
--- src/object.rt:72:11
 test-room-requires : tie.Need-test-room-requires
 test-room-requires c κs = search needs
 
--- src/object.rt:73:35
 enum-told : tie.Need-enum-told
 enum-told c = search needs
 
--- src/object.rt:73:35
 object-block-requires : tie.Need-object-block-requires
 object-block-requires c κs = search needs
 
--- src/object.rt:74:23
 enum-known-b : tie.Need-enum-known-b
 enum-known-b c = search needs
 
--- src/object.rt:74:32
 cdhd-in-requires : tie.Need-cdhd-in-requires
 cdhd-in-requires c κs =
     let i = object-at _ _ _ _ (sym (c .before .b .given .1) ∙ c .before .before .before .object-block .ensures) in
     (i .1, i .2)
 
--- src/object.rt:75:31
 enum-told-2 : tie.Need-enum-told-2
 enum-told-2 c = search needs
 
--- src/object.rt:77:25
 enum-known-number : tie.Need-enum-known-number
 enum-known-number c = search needs
 
--- src/object.rt:69:1
 returns : tie.Need-returns
 unfolding headerPlace
 returns c =
@@ -62,7 +36,6 @@ returns c =
     let block = sym (c .before .before .b .given .1) ∙ c .before .before .before .before .object-block .ensures in
     rw (← right, ← block) (c .cdhd-in .ensures)
 
--- src/object.rt:69:1
 returns-2 : tie.Need-returns-2
 unfolding headerPlace
 returns-2 c =
@@ -70,7 +43,6 @@ returns-2 c =
     let none = sym (c .enum-told2 .given .1) ∙ c .before .before .object-block .ensures in
     rw (← right, ← none)
 
--- src/object.rt:69:1
 returns-3 : tie.Need-returns-3
 unfolding headerPlace
 returns-3 c =

@@ -1,21 +1,12 @@
-use Rattle.room.proofs.HeadLaws.{head-sound}
-use Rattle.room.specs.Test.{planeIn, planeFound, planeTest, picturesTest, short, orRefused, afterHead, roomTest}
-use Rattle.room.specs.Head.{headOf, Sound}
+use Rattle.room.specs.Test.{planeTest}
 use Rattle.table.proofs.TestLaws.{leftmost-none, leftmost-pass, leftmost-stop}
 use Rattle.table.specs.Test.{leftmost}
-use Rattle.block.proofs.Laws.{need-at, nth-at}
-use denote.Ref.{now}
-use borrow.Author.Tests.{eq-eqb, ne-eqb, not-true, not-false}
 use borrow.Author.Needs.{needs}
-use native.Mathlib.Nat.{mul-le-mul, sub-zero}
 use native.Mathlib.Omega.{arith}
-use Prim.Native.Nat.{ℕ, suc, _+_, _-_, _*_, _/_, _≤_, _<_}
-use mathlib.Core.Path.{_≡_, refl, sym, ap, _∙_}
+use Prim.Native.Nat.{suc, _+_, _-_, _≤_}
+use mathlib.Core.Path.{_≡_, sym, _∙_}
 use Rattle.room.proofs.test.test_planes.Statement.{statement}
 use Rattle.room.proofs.test.test_planes.Tie as tie
-use Rattle.room.proofs.test.test_planes.Reads as reads
-use Rattle.room.proofs.test.test_planes.Lts as lts
-use Rattle.room.proofs.test.test_plane.Reads as test-plane-reads
 
 abbrev Inv-loop : tie.InvT-loop
 Inv-loop s r planes k₀ k = (1 ≤ k) × (k ≤ planes + 1) × (leftmost (planeTest s r) k (planes + 1 - k) ≡ leftmost (planeTest s r) 1 (r .planes))
@@ -23,45 +14,36 @@ Inv-loop s r planes k₀ k = (1 ≤ k) × (k ≤ planes + 1) × (leftmost (plane
 abbrev μ-loop : tie.MeasureT-loop
 μ-loop s r planes k₀ k = planes + 1 - k
 
--- src/test.rt:44:5
 loop-holds : tie.Need-loop-holds Inv-loop μ-loop
 loop-holds c =
     let all : c .before .args .r .planes + 1 - 1 ≡ c .before .args .r .planes = omega arith in
     (omega arith, omega arith, rw all)
 
--- src/test.rt:45:15
 test-plane-requires : tie.Need-test-plane-requires Inv-loop μ-loop
 test-plane-requires c κs = (c .before .before .before .pre, omega arith)
 
--- src/test.rt:47:17
 enum-told : tie.Need-enum-told Inv-loop μ-loop
 enum-told c = search needs
 
--- src/test.rt:47:17
 add-k : tie.Need-add-k Inv-loop μ-loop
 add-k c = omega arith
 
--- src/test.rt:44:5
 loop-less : tie.Need-loop-less Inv-loop μ-loop
 loop-less c = omega arith
 
--- src/test.rt:44:5
 loop-again : tie.Need-loop-again Inv-loop μ-loop
 loop-again c =
     let more : c .before .before .before .before .before .before .args .r .planes + 1 - c .before .before .before .before .loop .k ≡ suc (c .before .before .before .before .before .before .args .r .planes + 1 - (c .before .before .before .before .loop .k + 1)) = omega arith in
     (omega arith, omega arith, sym (leftmost-pass _ _ _ _ more (sym (c .before .before .test-plane .ensures) ∙ c .enum-told .given .1)) ∙ c .before .before .before .before .loop .inv .2)
 
--- src/test.rt:49:27
 enum-known-number : tie.Need-enum-known-number Inv-loop μ-loop
 enum-known-number c = search needs
 
--- src/test.rt:50:17
 returns : tie.Need-returns Inv-loop μ-loop
 returns c =
     let more : c .before .before .before .before .before .before .before .args .r .planes + 1 - c .before .before .before .before .before .loop .k ≡ suc (c .before .before .before .before .before .before .before .args .r .planes + 1 - (c .before .before .before .before .before .loop .k + 1)) = omega arith in
     sym (leftmost-stop _ _ _ _ more _ (sym (c .before .before .before .test-plane .ensures) ∙ c .before .number .given .1)) ∙ c .before .before .before .before .before .loop .inv .2
 
--- src/test.rt:38:1
 returns-2 : tie.Need-returns-2 Inv-loop μ-loop
 returns-2 c = sym (leftmost-none _ _ _ (omega arith)) ∙ c .before .loop .inv .2
 
