@@ -7,8 +7,8 @@ use Rattle.strip.specs.Strip.{changeOp, go, minus, plus}
 use Rattle.strip.proofs.StripLaws.{minus-of, change-run, change-by, went-from}
 use Rattle.bits.proofs.BitLaws.{told}
 use lib.Dec.{lit<}
-use Rattle.strip.proofs.change.Statement.{statement}
-use Rattle.strip.proofs.change.Tie as tie
+use Rattle.strip.proofs.operations.change.Statement.{statement}
+use Rattle.strip.proofs.operations.change.Tie as tie
 
 bits-requires : tie.Need-bits-requires
 bits-requires c κs = search needs

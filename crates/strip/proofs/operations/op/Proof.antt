@@ -5,8 +5,8 @@ use Rattle.strip.specs.Strip.{opOf}
 use Rattle.strip.proofs.StripLaws.{told-bit, two, op-change, op-walk, went-from}
 use mathlib.Core.List.{List, _∷_}
 use denote.Ref.{now}
-use Rattle.strip.proofs.op.Statement.{statement}
-use Rattle.strip.proofs.op.Tie as tie
+use Rattle.strip.proofs.operations.op.Statement.{statement}
+use Rattle.strip.proofs.operations.op.Tie as tie
 
 bit-requires : tie.Need-bit-requires
 bit-requires c κs = search needs

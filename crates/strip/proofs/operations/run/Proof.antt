@@ -2,8 +2,8 @@ use borrow.Author.Needs.{needs}
 use mathlib.Core.Path.{ap}
 use Rattle.strip.specs.Strip.{runOp}
 use Rattle.bits.proofs.BitLaws.{told}
-use Rattle.strip.proofs.run.Statement.{statement}
-use Rattle.strip.proofs.run.Tie as tie
+use Rattle.strip.proofs.operations.run.Statement.{statement}
+use Rattle.strip.proofs.operations.run.Tie as tie
 
 bits-requires : tie.Need-bits-requires
 bits-requires c κs = search needs

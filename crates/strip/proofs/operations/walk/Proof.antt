@@ -5,8 +5,8 @@ use Rattle.bits.specs.Bits.{rest}
 use denote.Ref.{now}
 use Rattle.strip.specs.Strip.{walkOp, go, minus}
 use Rattle.strip.proofs.StripLaws.{told-bit, minus-of}
-use Rattle.strip.proofs.walk.Statement.{statement}
-use Rattle.strip.proofs.walk.Tie as tie
+use Rattle.strip.proofs.operations.walk.Statement.{statement}
+use Rattle.strip.proofs.operations.walk.Tie as tie
 
 bit-requires : tie.Need-bit-requires
 bit-requires c κs = search needs

@@ -9,8 +9,8 @@ use Rattle.bits.specs.Bits.{rest, Held}
 use Rattle.strip.specs.Strip.{decode, glue}
 use Rattle.strip.proofs.StripLaws.{told-next, glue-none, glue-store, drop-store, decode-go, decode-stop, filled-all}
 use mathlib.Core.List.{[]}
-use Rattle.strip.proofs.pixels_of.Statement.{statement}
-use Rattle.strip.proofs.pixels_of.Tie as tie
+use Rattle.strip.proofs.operations.pixels_of.Statement.{statement}
+use Rattle.strip.proofs.operations.pixels_of.Tie as tie
 
 abbrev Inv-loop : tie.InvT-loop
 Inv-loop body second w total out₀ st₀ i₀ out st i =

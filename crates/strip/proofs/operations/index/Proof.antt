@@ -2,8 +2,8 @@ use borrow.Author.Needs.{needs}
 use mathlib.Core.Path.{ap}
 use Rattle.strip.specs.Strip.{indexOp}
 use Rattle.bits.proofs.BitLaws.{told}
-use Rattle.strip.proofs.index.Statement.{statement}
-use Rattle.strip.proofs.index.Tie as tie
+use Rattle.strip.proofs.operations.index.Statement.{statement}
+use Rattle.strip.proofs.operations.index.Tie as tie
 
 bits-requires : tie.Need-bits-requires
 bits-requires c κs = search needs
