@@ -1,4 +1,5 @@
--- The bits of a body, what of them a cursor has not handed out yet, and what reading them gives.
+-- The bits of a body, read from bit 0 up, and numbers of n bits, low bit first (document 01, "Strips of pixels"); what of them a cursor
+-- has not handed out yet.
 use mathlib.Core.Path.{_≡_}
 use mathlib.Core.Bool.{Bool, true, false}
 use mathlib.Core.List.{List, [], _∷_, _++_}

@@ -1,4 +1,4 @@
--- A block's tag, and which tags are containers.
+-- A block's tag, and which tags are containers (document 01, "Blocks").
 use Prim.Native.Nat.{ℕ, _+_}
 use mathlib.Core.List.{List}
 use mathlib.Core.Bool.{Bool, true, false, _&&_, _||_}

@@ -1,4 +1,5 @@
--- The block tree of a room. A list of blocks stands in [a, e) of the room's bytes s; positions are counted in s.
+-- The block tree of a room (document 01, "Blocks"; refusal 1). A list of blocks stands in [a, e) of the room's bytes s; positions are
+-- counted in s.
 use Prim.Native.Nat.{ℕ, zero, suc, _+_, _-_, _≤_}
 use mathlib.Core.List.{List, [], _∷_}
 use mathlib.Core.Bool.{Bool, true, false, _&&_, cond}

@@ -1,4 +1,5 @@
--- What a run of writes leaves in a flat buffer that is read as a grid: cell (x, y) of a grid of width w stands at y * w + x. Assumes nothing.
+-- What a run of writes leaves in a flat buffer that is read as a grid: cell (x, y) of a grid of width w stands at y * w + x (document 01,
+-- "Sizes"). Bytes that no write names stay.
 use mathlib.Core.Bool.{Bool, true, false, _&&_}
 use mathlib.Core.List.{List, [], _∷_}
 use Prim.Native.Nat.{ℕ, suc, _+_, _-_, _*_, _/_, _%_, _≤_, _<_}

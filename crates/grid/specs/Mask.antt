@@ -1,4 +1,5 @@
--- What rows of mask bytes make of the bytes below them. Plane k, strip s, row y stands at ((k - 1) * h + y) * width + s. Assumes nothing.
+-- What rows of mask bytes make of the bytes below them: they replace them, or their bits are joined (document 01, "Sessions"). Plane k,
+-- strip s, row y stands at ((k - 1) * h + y) * width + s.
 use mathlib.Core.Bool.{Bool}
 use mathlib.Core.List.{List}
 use Prim.Native.Nat.{ℕ, _+_, _*_, _≤_, _<_}

@@ -1,4 +1,5 @@
--- What a strip of pixels, 8 wide and given by rows, makes of the cell below it. Assumes nothing.
+-- What a strip of pixels, 8 wide and given by rows, makes of the cell below it (document 01, "Sessions": an entry's pixel is transparent
+-- if its code is a transparent one and its value is 255).
 use mathlib.Core.Bool.{Bool, _&&_}
 use mathlib.Core.List.{List}
 use Prim.Native.Nat.{ℕ, _+_, _*_}

@@ -1,4 +1,4 @@
--- What the bytes of a mask strip mean: its rows, or the number of its refusal.
+-- One strip of masks (document 01, "Strips of masks"): what its bytes mean, its rows or the number of its refusal, 7 or 8.
 use mathlib.Core.Bool.{Bool, true, false}
 use mathlib.Core.List.{List, [], _∷_}
 use Prim.Native.Nat.{ℕ, zero, suc, _-_}
@@ -11,6 +11,7 @@ pub data Owed : Type 0 where
   literals : ℕ → Owed
   copies : ℕ → Owed
 
+-- what an operation byte asks: it passes the end of the strip, or it owes rows
 pub data Plan : Type 0 where
   past : Plan
   owe : Owed → Plan
@@ -19,7 +20,7 @@ abbrev pub pick : Bool → Plan → Plan → Plan
 pick true a b = a
 pick false a b = b
 
--- an operation byte, with k rows to go
+-- an operation byte with k rows to go: below 80 that many literal rows, else (byte − 80) copies of one byte; passing the end is tested first
 abbrev pub planOf : ℕ → ℕ → Plan
 planOf k op =
     pick (ltb op 0x80)

@@ -1,4 +1,4 @@
--- A strip's code, where its pixels lie, and the answer to a whole strip body.
+-- A strip's code, where its pixels lie, and a whole strip body (document 01, "Strips of pixels").
 use mathlib.Core.Path.{_≡_}
 use mathlib.Core.Bool.{Bool, true, false}
 use mathlib.Core.List.{List, [], _∷_, _++_}
@@ -24,7 +24,7 @@ abbrev pub orElse : Bool → Kind → Kind → Kind
 orElse true a b = a
 orElse false a b = b
 
--- second method, vertical, transparent, index bits
+-- the codes in document 01's order: each says second method, vertical, transparent, and the index bits
 unfoldable pub kindOf : ℕ → Kind
 kindOf code =
     orElse (eqb code 0x01) Raw
@@ -38,12 +38,14 @@ kindOf code =
     (orElse (fiveFrom 0x7C code) (Coded true false false (code - 0x78))
     Unknown))))))))
 
+-- index bits are 4 to 8
 abbrev pub Width : Kind → Type 0
 Width Raw = Unit {0}
 Width (Coded second vertical clear w) = (4 ≤ w) × (w ≤ 8)
 Width Unknown = Unit {0}
 
--- which pixel, in the order in which they are made, stands at j counted by rows
+-- which pixel, in the order in which they are made, stands at j counted by rows: pixel i lies at row i / 8, column i mod 8, or vertical at
+-- column i / H, row i mod H
 abbrev pub sourceOf : Bool → ℕ → ℕ → ℕ
 sourceOf false h j = j
 sourceOf true h j = j % 8 * h + j / 8
@@ -70,7 +72,7 @@ abbrev pub unless : Bool → Picture → Picture → Picture
 unless true a b = a
 unless false a b = b
 
--- after the code: the colour, then 8h bytes
+-- raw, after the code: the colour byte, then 8h pixel bytes by rows
 unfoldable pub rawOf : ℕ → List ℕ → Picture
 rawOf h [] = refusal 7
 rawOf h (c ∷ t) = unless (ltb (length t) (8 * h)) (refusal 7) (picture false (placed false h t))
@@ -79,7 +81,7 @@ abbrev pub shown : Bool → Bool → ℕ → Strip → Picture
 shown vertical clear h (refused n) = refusal n
 shown vertical clear h (pixels xs) = picture clear (placed vertical h xs)
 
--- after the code: the colour, then the bits of the operations
+-- the others, after the code: pixel 0 is the first colour, and each operation gives the next
 unfoldable pub codedOf : Bool → Bool → Bool → ℕ → ℕ → List ℕ → Picture
 codedOf second vertical clear w h [] = refusal 7
 codedOf second vertical clear w h (c ∷ t) = shown vertical clear h (decode second w (8 * h) 1 c 1 (bitsOf t))
@@ -89,7 +91,7 @@ byKind h t Raw = rawOf h t
 byKind h t (Coded second vertical clear w) = codedOf second vertical clear w h t
 byKind h t Unknown = refusal 6
 
--- a whole body of h rows
+-- a whole body of h rows: its code is judged (6) before its colour is looked for (7)
 unfoldable pub stripOf : ℕ → List ℕ → Picture
 stripOf h [] = refusal 7
 stripOf h (code ∷ t) = byKind h t (kindOf code)

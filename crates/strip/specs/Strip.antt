@@ -1,4 +1,5 @@
--- What the bits of a strip mean: its pixels in the order in which they are made, or the number of its refusal.
+-- The two methods (document 01, "Strips of pixels"): what the bits of a strip mean, its pixels in the order in which they are made or the
+-- number of its refusal, 7 or 8.
 use mathlib.Core.Path.{_≡_}
 use mathlib.Core.Bool.{Bool, true, false}
 use mathlib.Core.List.{List, [], _∷_, _++_}
@@ -28,19 +29,23 @@ abbrev pub choose : Bool → Move → Move → Move
 choose true a b = a
 choose false a b = b
 
+-- `10`: a new index, and the step is 1 again (7 where its bits are missing)
 abbrev pub indexOp : Pull → Move
 indexOp short = refuse 7
 indexOp (got v l) = go 0 v 1 l
 
+-- first method: `110` colour − step; `111` negate the step, then colour − step
 abbrev pub walkOp : ℕ → ℕ → List Bool → Move
 walkOp c s [] = refuse 7
 walkOp c s (false ∷ l) = go 0 (minus c s) s l
 walkOp c s (true ∷ l) = go 0 (minus c (minus 0 s)) (minus 0 s) l
 
+-- second method, d = 4: an 8-bit n gives 1 + n pixels of the colour, so n are owed after the first
 abbrev pub runOp : ℕ → ℕ → Pull → Move
 runOp c s short = refuse 7
 runOp c s (got n l) = go n c s l
 
+-- second method: `11` and 3-bit d; d ≠ 4 gives colour + d − 4
 abbrev pub changeOp : ℕ → ℕ → Pull → Move
 changeOp c s short = refuse 7
 changeOp c s (got d l) = choose (eqb d 4) (runOp c s (pull 8 l)) (go 0 (minus (plus c d) 4) s l)
@@ -59,15 +64,17 @@ abbrev pub measured : ℕ → Move → Move
 measured k (refuse n) = refuse n
 measured k (go left c s l) = choose (leb left k) (go left c s l) (refuse 8)
 
--- the next pixel
+-- the next pixel: one that is owed, or the first that the next operation gives
 abbrev pub moveOf : Bool → ℕ → ℕ → ℕ → ℕ → ℕ → List Bool → Move
 moveOf second w k zero c s l = measured k (opOf second w c s l)
 moveOf second w k (suc left) c s l = go left c s l
 
+-- what a decode comes to: the number of the refusal, or the values (pixels, or rows of a mask)
 pub data Strip : Type 0 where
   refused : ℕ → Strip
   pixels : List ℕ → Strip
 
+-- a value in front
 abbrev pub onto : ℕ → Strip → Strip
 onto x (refused n) = refused n
 onto x (pixels xs) = pixels (x ∷ xs)
@@ -77,7 +84,7 @@ abbrev pub glue : List ℕ → Strip → Strip
 glue xs (refused n) = refused n
 glue xs (pixels ys) = pixels (xs ++ ys)
 
--- the next k pixels
+-- the next k pixels, in a strip that they fill; `left` more of the colour c are owed, s is the step and l the bits left
 unfoldable pub decode : Bool → ℕ → ℕ → ℕ → ℕ → ℕ → List Bool → Strip
 decode second w zero left c s l = pixels []
 decode second w (suc k) left c s l =

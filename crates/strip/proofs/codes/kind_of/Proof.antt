@@ -47,11 +47,10 @@ family-requires-8 c κs = search needs
 -- src/codes.rt:42:1
 returns-2 : tie.Need-returns-2
 unfolding kindOf
-returns-2 c =
-    (
-      rw (ne-eqb _ _ (c .before .before .before .before .before .before .before .before .if1 .left), ← c .before .before .before .before .before .before .before .family .ensures .0, ← c .before .before .before .before .before .before .family2 .ensures .0, ← c .before .before .before .before .before .family3 .ensures .0, ← c .before .before .before .before .family4 .ensures .0, ← c .before .before .before .family5 .ensures .0, ← c .before .before .family6 .ensures .0, ← c .before .family7 .ensures .0) (c .family8 .ensures .0),
-      c .family8 .ensures .1,
-    )
+returns-2 c = (
+  rw (ne-eqb _ _ (c .before .before .before .before .before .before .before .before .if1 .left), ← c .before .before .before .before .before .before .before .family .ensures .0, ← c .before .before .before .before .before .before .family2 .ensures .0, ← c .before .before .before .before .before .family3 .ensures .0, ← c .before .before .before .before .family4 .ensures .0, ← c .before .before .before .family5 .ensures .0, ← c .before .before .family6 .ensures .0, ← c .before .family7 .ensures .0) (c .family8 .ensures .0),
+  c .family8 .ensures .1,
+)
 
 pub kind-of-spec : {M : Type 1} → statement M
 kind-of-spec =
