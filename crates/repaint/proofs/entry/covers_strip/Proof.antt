@@ -1,0 +1,40 @@
+-- `repaint::entry::covers_strip` meets its contract. Assumes nothing.
+use Rattle.repaint.proofs.SourceLaws.{covers-by}
+use native.Mathlib.Omega.{arith}
+use Prim.Native.Nat.{_+_, _*_}
+use borrow.Author.Needs.{needs}
+use Rattle.repaint.proofs.entry.covers_strip.Statement.{statement}
+use Rattle.repaint.proofs.entry.covers_strip.Tie as tie
+
+mul-strips : tie.Need-mul-strips
+mul-strips c = search needs
+
+add-strips : tie.Need-add-strips
+add-strips c = search needs
+
+mul-strips-2 : tie.Need-mul-strips-2
+mul-strips-2 c = search needs
+
+shared-slice-read-strips : tie.Need-shared-slice-read-strips
+shared-slice-read-strips c = search needs
+
+cast-strips : tie.Need-cast-strips
+cast-strips c = omega (arith, c .shared-slice-known .given (8 * c .before .args .o + 3))
+
+add-result : tie.Need-add-result
+add-result c = omega (arith, c .shared-slice-known .given (8 * c .before .args .o + 3))
+
+returns : tie.Need-returns
+returns c = λ s r st y g one le. covers-by s r _ (record { object = c .before .args .o; state = st; x = c .before .args .x; y = y }) _ g one le
+
+pub covers-strip-spec : {M : Type 1} → statement M
+covers-strip-spec =
+    tie.close
+    (tie.spec
+    mul-strips
+    add-strips
+    mul-strips-2
+    shared-slice-read-strips
+    cast-strips
+    add-result
+    returns)

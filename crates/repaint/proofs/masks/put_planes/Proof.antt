@@ -1,0 +1,58 @@
+-- `repaint::masks::put_planes` meets its contract. Assumes nothing.
+use Rattle.repaint.proofs.PaintLaws.{planes-none, planes-more}
+use Rattle.repaint.specs.Source.{rowsByte}
+use Rattle.repaint.specs.Layer.{stripByte}
+use Rattle.room.specs.Test.{strips}
+use Rattle.grid.specs.Grid.{upd}
+use lib.ListN.{length}
+use mathlib.Core.Path.{_≡_, refl, _∙_}
+use Prim.Native.Nat.{_+_, _-_, _*_, _%_, _≤_}
+use native.Mathlib.Omega.{arith}
+use Rattle.repaint.proofs.masks.put_planes.Statement.{statement}
+use Rattle.repaint.proofs.masks.put_planes.Tie as tie
+
+abbrev Inv-loop : tie.InvT-loop
+Inv-loop room r m j k y replace masks₀ planes p₀ masks p = (1 ≤ p) × (p ≤ planes + 1) × (length masks ≡ length masks₀) × (masks ≡ upd (stripByte ((p - 1) * r .height * strips r) (λ i. i % strips r) k (rowsByte room m j (strips r) (r .height) k y replace)) masks₀)
+
+abbrev μ-loop : tie.MeasureT-loop
+μ-loop room r m j k y replace masks₀ planes p₀ masks p = planes + 1 - p
+
+loop-holds : tie.Need-loop-holds Inv-loop μ-loop
+loop-holds c = (omega arith, omega arith, refl, planes-none _ (c .before .before .args .m) (c .before .before .args .j) (strips (c .before .before .args .r)) (c .before .before .args .r .height) _ (c .before .before .args .y) _ _)
+
+put-plane-requires : tie.Need-put-plane-requires Inv-loop μ-loop
+put-plane-requires c κs =
+    let same = c .before .before .loop .inv .2 in
+    (c .before .before .before .before .before .pre .0, ((c .before .before .before .before .before .pre .1 .0 _ (c .before .before .loop .inv .0) (c .before .loop-test .taken), c .before .before .loop .inv .0, c .before .loop-test .taken), (c .before .before .before .before .before .pre .1 .1 .0, c .before .before .before .before .before .pre .1 .1 .1, omega (arith, c .before .before .before .before .before .pre .1 .1 .2, same))))
+
+add-p : tie.Need-add-p Inv-loop μ-loop
+add-p c = omega arith
+
+loop-less : tie.Need-loop-less Inv-loop μ-loop
+loop-less c = omega arith
+
+loop-again : tie.Need-loop-again Inv-loop μ-loop
+loop-again c =
+    (omega arith, omega arith, c .before .before .put-plane .kept .1 .1 .1 .1 .1 .1 .1 .1 .0 ∙ c .before .before .before .before .before .loop .inv .2, planes-more _ (c .before .before .before .before .before .before .before .before .args .m) (c .before .before .before .before .before .before .before .before .args .j) (strips (c .before .before .before .before .before .before .before .before .args .r)) (c .before .before .before .before .before .before .before .before .args .r .height) _ (c .before .before .before .before .before .before .before .before .args .y) _ _ _ _ _ (c .before .before .before .before .before .loop .inv .0) (omega (arith, c .before .before .before .before .before .before .before .before .pre .1 .1 .0)) (c .before .before .before .before .before .before .before .before .pre .0 .0 .lowest) (c .before .before .before .before .before .before .before .before .pre .1 .1 .1) (c .before .before .before .before .before .loop .inv .3) (c .before .before .put-plane .ensures))
+
+same-length : tie.Need-same-length Inv-loop μ-loop
+same-length c = c .before .loop .inv .2
+
+returns : tie.Need-returns Inv-loop μ-loop
+returns c =
+    let all : c .before .loop .p - 1 ≡ c .before .before .before .before .args .r .planes = omega arith in
+    rw all at (c .before .loop .inv .3)
+
+pub put-planes-spec : {M : Type 1} → statement M
+put-planes-spec =
+    tie.close
+    (tie.spec
+    Inv-loop
+    μ-loop
+    loop-holds
+    put-plane-requires
+    add-p
+    loop-less
+    loop-again
+    same-length
+    returns)

@@ -1,0 +1,73 @@
+-- `repaint::masks::rebuild_masks` meets its contract. Assumes nothing.
+use Rattle.repaint.proofs.PaintLaws.{touched-masks}
+use Rattle.repaint.proofs.LayerLaws.{touch-none, touch-on, touch-off}
+use Rattle.repaint.specs.Decoded.{decoded, entriesOf}
+use Rattle.scene.specs.Painting.{maskLayout, rebuiltBytes}
+use lib.ListN.{length, getD}
+use lib.Dec.{eqb, ltb}
+use borrow.Author.Tests.{eq-eqb, ne-eqb}
+use mathlib.Core.Bool.{not, _&&_}
+use mathlib.Core.Path.{_≡_, refl, ap, _∙_}
+use Prim.Native.Nat.{_-_, _≤_}
+use native.Mathlib.Omega.{arith}
+use Rattle.repaint.proofs.masks.rebuild_masks.Statement.{statement}
+use Rattle.repaint.proofs.masks.rebuild_masks.Tie as tie
+
+abbrev Inv-loop : tie.InvT-loop
+Inv-loop room r table shown n touched masks₀ count k₀ masks k = (k ≤ count) × (length masks ≡ length masks₀) × (masks ≡ rebuiltBytes (maskLayout (decoded room r)) (entriesOf shown n) (λ t. ltb t k && not (eqb (getD touched t 0) 0)) masks₀)
+
+abbrev μ-loop : tie.MeasureT-loop
+μ-loop room r table shown n touched masks₀ count k₀ masks k = count - k
+
+loop-holds : tie.Need-loop-holds Inv-loop μ-loop
+loop-holds c = (omega arith, refl, touch-none _ _ _ _)
+
+shared-slice-read-if1 : tie.Need-shared-slice-read-if1 Inv-loop μ-loop
+shared-slice-read-if1 c = omega (arith, c .before .before .before .before .before .before .before .before .before .pre .1 .0)
+
+add-k : tie.Need-add-k Inv-loop μ-loop
+add-k c = omega arith
+
+loop-less : tie.Need-loop-less Inv-loop μ-loop
+loop-less c = omega arith
+
+loop-again : tie.Need-loop-again Inv-loop μ-loop
+loop-again c = (omega arith, c .before .before .before .loop .inv .1, touch-off _ _ _ _ _ _ (c .before .before .before .loop .inv .2) (ap not (eq-eqb _ 0 (c .if1 .taken))))
+
+strip-masks-requires : tie.Need-strip-masks-requires Inv-loop μ-loop
+strip-masks-requires c κs =
+    let same = c .before .before .before .before .loop .inv .1 in
+    (c .before .before .before .before .before .before .before .before .before .before .before .pre .0, (c .before .before .before .loop-test .taken, omega (arith, c .before .before .before .before .before .before .before .before .before .before .before .pre .1 .1, same)))
+
+add-k-2 : tie.Need-add-k-2 Inv-loop μ-loop
+add-k-2 c = omega arith
+
+loop-less-2 : tie.Need-loop-less-2 Inv-loop μ-loop
+loop-less-2 c = omega arith
+
+loop-again-2 : tie.Need-loop-again-2 Inv-loop μ-loop
+loop-again-2 c = (omega arith, c .before .before .strip-masks .kept .1 .1 .1 .1 .1 .1 .0 ∙ c .before .before .before .before .before .before .before .loop .inv .1, touch-on _ _ _ _ _ _ (c .before .before .before .before .before .before .before .loop .inv .2) (ap not (ne-eqb _ 0 (c .before .before .before .before .if1 .left))) _ (c .before .before .strip-masks .ensures))
+
+same-length : tie.Need-same-length Inv-loop μ-loop
+same-length c = c .before .loop .inv .1
+
+returns : tie.Need-returns Inv-loop μ-loop
+returns c = touched-masks _ _ _ _ _ _ _ (c .loop-test .left) (c .before .loop .inv .2)
+
+pub rebuild-masks-spec : {M : Type 1} → statement M
+rebuild-masks-spec =
+    tie.close
+    (tie.spec
+    Inv-loop
+    μ-loop
+    loop-holds
+    shared-slice-read-if1
+    add-k
+    loop-less
+    loop-again
+    strip-masks-requires
+    add-k-2
+    loop-less-2
+    loop-again-2
+    same-length
+    returns)

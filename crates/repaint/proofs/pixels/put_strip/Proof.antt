@@ -1,0 +1,56 @@
+-- `repaint::pixels::put_strip` meets its contract. Assumes nothing.
+use Rattle.repaint.proofs.SourceLaws.{strip-table, strip-read, read-over}
+use Rattle.paint.proofs.BoxLaws.{box-same}
+use native.Mathlib.Omega.{arith}
+use borrow.Author.Needs.{needs}
+use Rattle.repaint.proofs.pixels.put_strip.Statement.{statement}
+use Rattle.repaint.proofs.pixels.put_strip.Tie as tie
+
+slice-aggregate-read-strip : tie.Need-slice-aggregate-read-strip
+slice-aggregate-read-strip c = search needs
+
+read-strip-requires : tie.Need-read-strip-requires
+read-strip-requires c κs =
+    let p = c .before .before .before .pre .0 in
+    ((p .2, p .1 .narrow, p .1 .smap-in, p .1 .smap-last), (strip-table _ _ _ (p .1) (p .2), (p .1 .low, omega arith)))
+
+enum-known-clear : tie.Need-enum-known-clear
+enum-known-clear c = search needs
+
+slice-aggregate-blit-strip : tie.Need-slice-aggregate-blit-strip
+slice-aggregate-blit-strip c = search needs
+
+blit-strip-requires : tie.Need-blit-strip-requires
+blit-strip-requires c κs = search needs
+
+enum-told : tie.Need-enum-told
+enum-told c = search needs
+
+same-length : tie.Need-same-length
+same-length c = search needs
+
+returns : tie.Need-returns
+returns c =
+    let p = c .before .before .before .before .before .before .before .before .before .before .before .before .before .pre .0 in
+    box-same _ _ _ _ _ _ _ _ _
+    (λ x q o lx lq. read-over _ _ _ (p .1) (p .2) _ _ _ (c .before .before .before .before .before .before .before .before .before .read-strip .ensures) _ (c .before .before .before .before .before .before .clear .given .1) _ o (omega arith))
+    (c .before .before .blit-strip .ensures)
+
+returns-2 : tie.Need-returns-2
+returns-2 c =
+    let p = c .before .before .before .before .before .before .before .pre .0 in
+    absurd (strip-read _ _ _ (p .1) (p .2) _ _ _ (c .before .before .before .read-strip .ensures) _ (c .enum-told .given .1))
+
+pub put-strip-spec : {M : Type 1} → statement M
+put-strip-spec =
+    tie.close
+    (tie.spec
+    slice-aggregate-read-strip
+    read-strip-requires
+    enum-known-clear
+    slice-aggregate-blit-strip
+    blit-strip-requires
+    enum-told
+    same-length
+    returns
+    returns-2)

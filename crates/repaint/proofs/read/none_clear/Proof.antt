@@ -1,0 +1,52 @@
+-- `repaint::read::none_clear` meets its contract. Assumes nothing.
+use Rattle.repaint.proofs.EveryLaws.{clear-none, clear-found, clear-more}
+use Rattle.repaint.specs.Layer.{noneClear}
+use native.Mathlib.Omega.{arith}
+use Prim.Native.Nat.{_-_, _≤_}
+use mathlib.Core.Bool.{true}
+use mathlib.Core.Path.{_≡_, sym}
+use Rattle.repaint.proofs.read.none_clear.Statement.{statement}
+use Rattle.repaint.proofs.read.none_clear.Tie as tie
+
+abbrev Inv-loop : tie.InvT-loop
+Inv-loop values n clear i₀ i = (i ≤ n) × (noneClear clear values i ≡ true)
+
+abbrev μ-loop : tie.MeasureT-loop
+μ-loop values n clear i₀ i = n - i
+
+loop-holds : tie.Need-loop-holds Inv-loop μ-loop
+loop-holds c = (omega arith, clear-none _ _ 0)
+
+shared-slice-read-if1 : tie.Need-shared-slice-read-if1 Inv-loop μ-loop
+shared-slice-read-if1 c = omega arith
+
+returns : tie.Need-returns Inv-loop μ-loop
+returns c = clear-found _ _ _ _ (c .before .before .loop-test .taken) (c .if1 .taken)
+
+add-i : tie.Need-add-i Inv-loop μ-loop
+add-i c = omega arith
+
+loop-less : tie.Need-loop-less Inv-loop μ-loop
+loop-less c = omega arith
+
+loop-again : tie.Need-loop-again Inv-loop μ-loop
+loop-again c = (omega arith, clear-more _ _ 0 _ (c .before .before .before .loop .inv .1) (c .if1 .left))
+
+returns-2 : tie.Need-returns-2 Inv-loop μ-loop
+returns-2 c =
+    let all : c .before .loop .i ≡ c .before .before .args .n = omega arith in
+    sym (rw all at (c .before .loop .inv .1))
+
+pub none-clear-spec : {M : Type 1} → statement M
+none-clear-spec =
+    tie.close
+    (tie.spec
+    Inv-loop
+    μ-loop
+    loop-holds
+    shared-slice-read-if1
+    returns
+    add-i
+    loop-less
+    loop-again
+    returns-2)

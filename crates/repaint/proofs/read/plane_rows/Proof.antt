@@ -1,0 +1,61 @@
+-- `repaint::read::plane_rows` meets its contract. Assumes nothing.
+use Rattle.repaint.proofs.SourceLaws.{plane-table, rows-read, rows-zero}
+use Rattle.block.proofs.Laws.{nth-at}
+use native.Mathlib.Omega.{arith}
+use mathlib.Core.Path.{sym, _∙_}
+use borrow.Author.Needs.{needs}
+use Rattle.repaint.proofs.read.plane_rows.Statement.{statement}
+use Rattle.repaint.proofs.read.plane_rows.Tie as tie
+
+add-find-tag : tie.Need-add-find-tag
+add-find-tag c = search needs
+
+find-tag-requires : tie.Need-find-tag-requires
+find-tag-requires c κs = search needs
+
+enum-known-b : tie.Need-enum-known-b
+enum-known-b c = search needs
+
+read-rows-requires : tie.Need-read-rows-requires
+read-rows-requires c κs =
+    let at = sym (c .before .before .b .given .1) ∙ c .before .before .before .before .find-tag .ensures in
+    let in-room = nth-at _ _ _ _ _ _ _ at in
+    let p = c .before .before .before .before .before .before .before .pre .0 in
+    ((p .1, p .0 .narrow, omega (arith, in-room), omega (arith, in-room, p .0 .payload-last)), (plane-table _ (c .before .before .before .before .before .before .before .args .m) _ _ (p .1) (c .before .before .before .before .before .before .before .pre .1) _ _ at, p .3))
+
+enum-told : tie.Need-enum-told
+enum-told c = search needs
+
+fill-requires : tie.Need-fill-requires
+fill-requires c κs = search needs
+
+same-length : tie.Need-same-length
+same-length c = search needs
+
+returns : tie.Need-returns
+returns c =
+    let at = sym (c .before .before .before .before .before .b .given .1) ∙ c .before .before .before .before .before .before .before .find-tag .ensures in
+    rows-read _ (c .before .before .before .before .before .before .before .before .before .before .args .m) _ _ (c .before .before .before .before .before .before .before .before .before .before .pre .0 .1) (c .before .before .before .before .before .before .before .before .before .before .pre .1) _ _ at _ _ (c .before .before .read-rows .result) (c .before .before .read-rows .ensures)
+
+same-length-2 : tie.Need-same-length-2
+same-length-2 c = search needs
+
+returns-2 : tie.Need-returns-2
+returns-2 c =
+    let none = sym (c .before .before .before .before .enum-told .given .1) ∙ c .before .before .before .before .before .before .find-tag .ensures in
+    rows-zero _ (c .before .before .before .before .before .before .before .before .before .args .m) _ _ (c .before .before .before .before .before .before .before .before .before .pre .0 .1) (c .before .before .before .before .before .before .before .before .before .pre .1) none _ (c .before .before .fill .ensures .0)
+
+pub plane-rows-spec : {M : Type 1} → statement M
+plane-rows-spec =
+    tie.close
+    (tie.spec
+    add-find-tag
+    find-tag-requires
+    enum-known-b
+    read-rows-requires
+    enum-told
+    fill-requires
+    same-length
+    returns
+    same-length-2
+    returns-2)

@@ -1,0 +1,4 @@
+pub mod Decoded
+pub mod Layer
+pub mod Source
+pub mod Ready

@@ -1,0 +1,59 @@
+// What is read of one strip of a picture.
+ghost use mathlib.Core.Path.{_≡_};
+ghost use Prim.Native.Nat.{ℕ, _*_, _≤_, _<_};
+ghost use lib.ListN.{length, getD};
+ghost use Rattle.table.specs.Body.{pixelsOf};
+ghost use Rattle.image.specs.Pixel.{clearCode};
+ghost use Rattle.repaint.specs.Layer.{noneClear};
+ghost use Rattle.repaint.specs.Source.{Readable, PlanePasses, stripIn, maskIn};
+use crate::Source;
+use block::Found;
+use block::find_tag;
+use strip::Answer;
+
+const ZP00: usize = 0x5A50_3030;
+
+// Whether none of the first n pixels of a strip is transparent.
+pub fn none_clear(values: &[u8], n: usize, clear: bool) -> bool
+    requires { ⌜ n ≤ length (now values) ⌝ }
+    ensures { λ r. ⌜ r ≡ noneClear clear (now (values .entry)) n ⌝ }
+{
+    let mut i: usize = 0;
+    while i < n {
+        if clear & (values[i] == 255) {
+            return false;
+        }
+        i += 1;
+    }
+    true
+}
+
+// Whether strip j has no transparent pixel.
+pub fn strip_opaque(room: &[u8], m: Source, j: usize) -> bool
+    requires { ⌜ Readable (now room) m × (j < m .strips) ⌝ }
+    ensures { λ r. ⌜ r ≡ noneClear (clearCode (stripIn (now (room .entry)) m j)) (pixelsOf (stripIn (now (room .entry)) m j)) (8 * m .height) ⌝ }
+{
+    let mut scratch = [0u8; 1600];
+    let height = m.height;
+    match table::read_strip(room, m.strips, height, m.smap, m.smap_end, j, &mut scratch) {
+        Answer::Drawn { clear } => none_clear(&scratch, 8 * height, clear),
+        Answer::Refused(_) => true,
+    }
+}
+
+// The rows of strip j of plane p; zeros where the plane is missing.
+pub fn plane_rows(room: &[u8], m: Source, p: usize, j: usize, out: &mut [u8])
+    requires { ⌜ Readable (now room) m × (j < m .strips) × (p ≤ 4) × (m .height ≤ length (now out)) ⌝ }
+    requires { ⌜ PlanePasses (now room) m p ⌝ }
+    ensures { λ _. ⌜ ((y : ℕ) → y < m .height → getD (now (out .exit)) y 0 ≡ maskIn (now (room .entry)) m p j y) ⌝ }
+{
+    let height = m.height;
+    match find_tag(room, m.payload, m.payload_end, ZP00 + p) {
+        Found::At(b, z) => {
+            table::read_rows(room, m.strips, height, b, z, j, out);
+        }
+        Found::Missing => {
+            plane::fill(out, 0, height, 0);
+        }
+    }
+}

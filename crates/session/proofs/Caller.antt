@@ -1,0 +1,342 @@
+-- What a caller cites: a call on the session's bytes is scene's `called` on the session that they hold, for any room that the tables tell.
+-- Assumes nothing.
+use Prim.Native.Nat.{ℕ, zero, suc, _+_, _*_, _<_, _≤_}
+use mathlib.Core.Path.{_≡_, refl, sym, ap, subst, _∙_}
+use mathlib.Core.Bool.{Bool, true, false, cond, _||_}
+use mathlib.Core.List.{List, [], _∷_}
+use lib.Dec.{eqb, leb}
+use lib.ListN.{getD, length, length-append}
+use native.Mathlib.Omega.{arith}
+use borrow.Author.Tests.{eqb-true, leb-false}
+use Rattle.session.proofs.ReplayLaws.{both}
+use Rattle.scene.specs.declared.Entry.{Entry}
+use Rattle.scene.specs.declared.Place.{Place}
+use Rattle.scene.specs.declared.Step.{Step}
+use Rattle.scene.specs.declared.Step.the-variants.{Draw, Hide}
+use Rattle.scene.specs.Painting.{Room, Surfaces}
+use Rattle.scene.specs.Steps.{Scene, without, entryOf, removes, adds, applied, touches, refusal, bare, replay, replays}
+use Rattle.scene.specs.Session.{Session, State, make, takeBack, rightFor, sceneOf, refused, made, unmade, tried, called}
+use Rattle.session.specs.declared.Size.{Size}
+use Rattle.session.specs.Tables.{names, draws, tabled, Knows}
+use Rattle.session.specs.Bytes.{down, stepAt, stepsOf, readable, sessionOf, putShown, allPlaced, marksFrom, afterStep, afterBack, putNewest, dropNewest}
+use Rattle.session.specs.Plans.{Plan, no, ok, judged, settledOf, planned, undone, plannedBack, numberOf, stepKept, backKept, entries, planOf, sceneAfter}
+use Rattle.session.specs.declared.Shown.{Shown}
+use Rattle.session.proofs.PlanLaws.{accepted-plan, list-is, plan-and, plan-means}
+use Rattle.session.proofs.Lists.{append-nil}
+use Rattle.session.proofs.TablesLaws.{applied-same, session-same, replay-same, settled-same, back-same, planned-same, touches-same, or-left, or-right}
+use Rattle.session.proofs.BytesLaws.{length-down, newest-length, dropped-length, steps-after, steps-dropped, shown-back}
+use Rattle.session.proofs.ReplayLaws.{all-stand, placed-back, replays-older, replays-few, accepted-few, right-shown, right-scene}
+
+no-true : false ≡ true → ⊥
+no-true q = let z : _≡_ {A = ℕ} 0 1 = cc in omega arith
+
+-- ---- how long a shown list is
+
+without-length : (f : Entry → Bool) (es : List Entry) → length (without f es) ≤ length es
+unfolding without
+without-length f [] = omega arith
+without-length f (e ∷ es) = go (f e) (without-length f es)
+  where
+    go : (t : Bool) → length (without f es) ≤ length es → length (cond t (without f es) (e ∷ without f es)) ≤ suc (length es)
+    go true h = omega arith
+    go false h = omega arith
+
+module _ (room : Room) where
+  applied-length : (sc : Scene) (st : Step) → length (applied room sc st .shown) ≤ suc (length (sc .shown))
+  unfolding applied adds
+  applied-length sc (Draw o s p) =
+      let w = without-length (removes room sc (Draw o s p)) (sc .shown) in
+      omega (arith, length-append (without (removes room sc (Draw o s p)) (sc .shown)) (entryOf sc o s p ∷ []))
+  applied-length sc (Hide o) =
+      let w = without-length (removes room sc (Hide o)) (sc .shown) in
+      rw (append-nil (without (removes room sc (Hide o)) (sc .shown))) (omega arith)
+
+  replay-length : (h : List Step) → length (replay room (bare room) h .shown) ≤ length h
+  unfolding replay bare
+  replay-length [] = omega arith
+  replay-length (st ∷ h) =
+      let a = applied-length (replay room (bare room) h) st in
+      let b = replay-length h in
+      omega arith
+
+  -- ---- bytes that keep a history and the list of its replay hold that session
+
+  -- ---- bytes that keep a history and the list of its replay hold that session
+
+  holds : (m : List ℕ) (h : List Step) → 450 ≤ length m → length h ≤ 64 → stepsOf (putShown m (replay room (bare room) h .shown)) ≡ h
+      → sessionOf room (putShown m (replay room (bare room) h .shown)) ≡ record { history = h; shown = replay room (bare room) h .shown }
+  unfolding sessionOf
+  holds m h long few s =
+      let es = replay room (bare room) h .shown in
+      let b = putShown m es in
+      let n = replay-length h in
+      let k : 322 + 2 * length es ≤ length m = omega arith in
+      let q : allPlaced (replay room (bare room) (stepsOf b) .last) (marksFrom b 0 (getD b 1 0)) ≡ es =
+      (λ i. allPlaced (replay room (bare room) (s i) .last) (shown-back m es k i))
+      ∙ placed-back (replay room (bare room) h .last) es (all-stand room h) in
+      λ i. record { history = s i; shown = q i }
+
+  module _ (l : List ℕ) (long : 450 ≤ length l) (right : rightFor room (sessionOf room l) ≡ true) where
+    abbrev ss : Session
+    ss = sessionOf room l
+
+    shown-is : (st : Step) → applied room (sceneOf room ss) st .shown ≡ replay room (bare room) (st ∷ stepsOf l) .shown
+    unfolding replay
+    shown-is st = ap (λ (c : Scene). applied room c st .shown) (right-scene room l right)
+
+    made-holds : (st : Step) → refusal room (length (ss .history)) (sceneOf room ss) st ≡ 0
+        → sessionOf room (afterStep l st (applied room (sceneOf room ss) st .shown))
+        ≡ record { history = st ∷ ss .history; shown = applied room (sceneOf room ss) st .shown }
+    unfolding sessionOf
+    made-holds st e =
+        let few = accepted-few room (length (stepsOf l)) (sceneOf room ss) st e in
+        let n = length-down (stepAt l) (getD l 0 0) in
+        let h = st ∷ stepsOf l in
+        let es = replay room (bare room) h .shown in
+        let c : getD l 0 0 < 64 = omega arith in
+        let m : 450 ≤ length (putNewest l st) = omega (arith, newest-length l st [] long c) in
+        ap (λ (x : List Entry). sessionOf room (afterStep l st x)) (shown-is st)
+        ∙ holds (putNewest l st) h m few (steps-after l st es long c)
+        ∙ (λ i. record { history = h; shown = sym (shown-is st) i })
+
+    back-holds : (st : Step) (h : List Step) → stepsOf l ≡ st ∷ h
+        → sessionOf room (afterBack l (replay room (bare room) h .shown)) ≡ record { history = h; shown = replay room (bare room) h .shown }
+    back-holds st h e =
+        let r = subst (λ (k : List Step). replays room (bare room) k ≡ true) e (right-shown room l right .0) in
+        let few : suc (length h) ≤ 64 = replays-few room (st ∷ h) r in
+        let es = replay room (bare room) h .shown in
+        let n = sym (length-down (stepAt l) (getD l 0 0)) ∙ ap length e in
+        let c : getD l 0 0 ≤ 64 = omega arith in
+        let m : 450 ≤ length (dropNewest l) = omega (arith, dropped-length l st h es long c e) in
+        holds (dropNewest l) h m (omega arith) (steps-dropped l st h es long c e)
+
+  -- ---- a call's number, and the session after it
+
+  number-case : (t : Bool) (k : ℕ) (es : List Entry) → eqb k 0 ≡ t → k ≡ numberOf (cond t (ok es) (no k))
+  number-case true k es q = eqb-true k 0 q
+  number-case false k es q = refl
+
+  module _ (l : List ℕ) (long : 450 ≤ length l) (lent : Surfaces) where
+    abbrev s0 : Session
+    s0 = sessionOf room l
+
+    abbrev b : State
+    b = record { session = s0; surfaces = lent }
+
+    make-case : (st : Step) (k : ℕ) (X : State) (es : List Entry) (r : Bool)
+        → (r ≡ true → eqb k 0 ≡ true → X .session ≡ sessionOf room (afterStep l st es))
+        → (cond r (record { number = k; after = cond (eqb k 0) X b }) (refused 9 b) .number ≡ numberOf (cond r (cond (eqb k 0) (ok es) (no k)) (no 9)))
+        × (cond r (record { number = k; after = cond (eqb k 0) X b }) (refused 9 b) .after .session
+        ≡ sessionOf room (stepKept l st (cond r (cond (eqb k 0) (ok es) (no k)) (no 9))))
+    make-case st k X es false h = (refl, refl)
+    make-case st k X es true h = (number-case (eqb k 0) k es refl, go (eqb k 0) refl)
+      where
+        go : (t : Bool) → eqb k 0 ≡ t → cond t X b .session ≡ sessionOf room (stepKept l st (cond t (ok es) (no k)))
+        go true q = h refl q
+        go false q = refl
+
+    pub make-called : (st : Step) → (called room b (make st) .number ≡ numberOf (planned room l st))
+        × (called room b (make st) .after .session ≡ sessionOf room (stepKept l st (planned room l st)))
+    unfolding called tried planned judged made
+    make-called st =
+        let k = refusal room (length (s0 .history)) (sceneOf room s0) st in
+        let es = applied room (sceneOf room s0) st .shown in
+        make-case st k (made room b st) es (rightFor room s0)
+        (λ r q. sym (made-holds l long r st (eqb-true k 0 q)))
+
+    undone-case : (h : List Step) → stepsOf l ≡ h → rightFor room s0 ≡ true
+        → (unmade room h b .number ≡ numberOf (undone room h)) × (unmade room h b .after .session ≡ sessionOf room (backKept l (undone room h)))
+    unfolding unmade undone
+    undone-case [] e r = (refl, refl)
+    undone-case (st ∷ h) e r = (refl, sym (back-holds l long r st h e))
+
+    pub back-called : (called room b takeBack .number ≡ numberOf (plannedBack room l))
+        × (called room b takeBack .after .session ≡ sessionOf room (backKept l (plannedBack room l)))
+    unfolding called tried plannedBack sessionOf
+    back-called = go (rightFor room s0) refl
+      where
+        go : (r : Bool) → rightFor room s0 ≡ r
+            → (cond r (unmade room (stepsOf l) b) (refused 9 b) .number ≡ numberOf (cond r (undone room (stepsOf l)) (no 9)))
+            × (cond r (unmade room (stepsOf l) b) (refused 9 b) .after .session ≡ sessionOf room (backKept l (cond r (undone room (stepsOf l)) (no 9))))
+        go false q = (refl, refl)
+        go true q = undone-case (stepsOf l) refl q
+
+-- ---- the same by the tables
+
+long-wrong : (room : Room) (l : List ℕ) → leb (getD l 0 0) 64 ≡ false → rightFor room (sessionOf room l) ≡ false
+long-wrong room l e = go (rightFor room (sessionOf room l)) refl
+  where
+    go : (t : Bool) → rightFor room (sessionOf room l) ≡ t → t ≡ false
+    go true q =
+        absurd
+        (omega
+        (arith, leb-false (getD l 0 0) 64 e, replays-few room (stepsOf l) (right-shown room l q .0), length-down (stepAt l) (getD l 0 0)))
+    go false q = refl
+
+module _ (room : Room) (objects verdicts : List ℕ) (size : Size) (l : List ℕ) where
+  abbrev T : Room
+  T = tabled objects verdicts size
+
+  -- a history of at most 64 steps is read, and its images are known
+  read : leb (getD l 0 0) 64 ≡ true → readable l ≡ stepsOf l
+  unfolding readable
+  read e = rw e
+
+  pub settled-known : Knows room objects verdicts size (readable l) → settledOf room l ≡ settledOf T l
+  unfolding settledOf
+  settled-known K = go (leb (getD l 0 0) 64) refl
+    where
+      go : (t : Bool) → leb (getD l 0 0) 64 ≡ t → settledOf room l ≡ settledOf T l
+      go true q = settled-same room objects verdicts size (readable l) K l (λ o s n. subst (λ (h : List Step). names h o s ≡ true) (sym (read q)) n)
+      go false q = rw (long-wrong room l q, long-wrong T l q)
+
+  pub back-known : Knows room objects verdicts size (readable l) → plannedBack room l ≡ plannedBack T l
+  unfolding plannedBack
+  back-known K = go (leb (getD l 0 0) 64) refl
+    where
+      go : (t : Bool) → leb (getD l 0 0) 64 ≡ t → plannedBack room l ≡ plannedBack T l
+      go true q = back-same room objects verdicts size (readable l) K l (λ o s n. subst (λ (h : List Step). names h o s ≡ true) (sym (read q)) n)
+      go false q = rw (long-wrong room l q, long-wrong T l q)
+
+  pub planned-known : (st : Step) → Knows room objects verdicts size (st ∷ readable l) → planned room l st ≡ planned T l st
+  unfolding planned names
+  planned-known st K = go (leb (getD l 0 0) 64) refl
+    where
+      go : (t : Bool) → leb (getD l 0 0) 64 ≡ t → planned room l st ≡ planned T l st
+      go true q =
+          planned-same room objects verdicts size (st ∷ readable l) K l
+          (λ o s n. or-right (draws st o s) (names (readable l) o s) (subst (λ (h : List Step). names h o s ≡ true) (sym (read q)) n)) st
+          (λ o s n. or-left (draws st o s) (names (readable l) o s) n)
+      go false q = rw (long-wrong room l q, long-wrong T l q)
+
+  -- a call on the bytes, by the tables, is the call on the session that they hold
+  module _ (long : 450 ≤ length l) (lent : Surfaces) where
+    abbrev held : State
+    held = record { session = sessionOf room l; surfaces = lent }
+
+    pub act-called : (st : Step) → Knows room objects verdicts size (st ∷ readable l)
+        → (called room held (make st) .number ≡ numberOf (planned T l st))
+        × (called room held (make st) .after .session ≡ sessionOf room (stepKept l st (planned T l st)))
+    act-called st K =
+        let p = planned-known st K in
+        let c = make-called room l long lent st in
+        (c .0 ∙ ap numberOf p, c .1 ∙ ap (λ (x : Plan). sessionOf room (stepKept l st x)) p)
+
+    pub take-back-called : Knows room objects verdicts size (readable l)
+        → (called room held takeBack .number ≡ numberOf (plannedBack T l))
+        × (called room held takeBack .after .session ≡ sessionOf room (backKept l (plannedBack T l)))
+    take-back-called K =
+        let p = back-known K in
+        let c = back-called room l long lent in
+        (c .0 ∙ ap numberOf p, c .1 ∙ ap (λ (x : Plan). sessionOf room (backKept l x)) p)
+
+  -- the strips touched, by the tables
+  pub touches-known : (steps : List Step) → Knows room objects verdicts size steps → (h : List Step) (es : List Entry) (st : Step) (k : ℕ)
+      → touches room (sceneAfter room h es) st k ≡ touches T (sceneAfter T h es) st k
+  touches-known steps K h es st k =
+      (λ i. touches room (record { shown = es; last = replay-same room objects verdicts size steps K h i .last }) st k)
+      ∙ touches-same room objects verdicts size steps K (sceneAfter T h es) st k
+
+  -- what `touched` asks of an accepted step, and of the newest step of a session that is taken back
+  module _ (s r : Shown) where
+    pub step-ready : (st : Step) → planOf s ≡ settledOf T l → s .refusal ≡ 0 → planOf r ≡ planned T l st → r .refusal ≡ 0
+        → refusal T (getD l 0 0) (sceneAfter T (stepsOf l) (entries s)) st ≡ 0
+    unfolding sessionOf
+    step-ready st p z q y =
+        let a = accepted-plan T l st r q y in
+        let m = list-is T l s p z ∙ right-shown T l (a .0) .1 in
+        (λ i. refusal T (sym (length-down (stepAt l) (getD l 0 0)) i) (sceneAfter T (stepsOf l) (m i)) st) ∙ a .1
+
+  pub back-ready : (r : Shown) (n : ℕ) → getD l 0 0 ≡ suc n → planOf r ≡ plannedBack T l → r .refusal ≡ 0
+      → refusal T n (sceneAfter T (down (stepAt l) n) (entries r)) (stepAt l n) ≡ 0
+  unfolding plannedBack sessionOf undone
+  back-ready r n en q y =
+      let h = down (stepAt l) n in
+      let new : stepsOf l ≡ stepAt l n ∷ h = ap (down (stepAt l)) en in
+      let a = plan-and r (rightFor T (sessionOf T l)) (undone T (stepsOf l)) 9 q y in
+      let m = plan-means r true 0 (replay T (bare T) h .shown) (a .1 ∙ ap (undone T) new) .1 y in
+      let e = replays-older T (stepAt l n) h (subst (λ (k : List Step). replays T (bare T) k ≡ true) new (right-shown T l (a .0) .0)) .1 in
+      (λ i. refusal T (sym (length-down (stepAt l) n) i) (sceneAfter T h (m i)) (stepAt l n)) ∙ e
+
+-- ---- what scene's `made` and `unmade` paint: the list, and the strips
+
+module _ (room : Room) (objects verdicts : List ℕ) (size : Size) (l : List ℕ) (steps : List Step) (K : Knows room objects verdicts size steps) where
+  abbrev T′ : Room
+  T′ = tabled objects verdicts size
+
+  -- a step: s is the settled list, r the plan's
+  module _ (st : Step) (s r : Shown) (p : planOf s ≡ settledOf T′ l) (z : s .refusal ≡ 0) where
+    scene-is : sceneOf room (sessionOf room l) ≡ sceneAfter T′ (stepsOf l) (entries s)
+    unfolding sceneOf sessionOf
+    scene-is =
+        (λ i. record { shown = session-same room objects verdicts size steps K l i .shown; last = replay-same room objects verdicts size steps K (stepsOf l) i .last })
+        ∙ (λ i. sceneAfter T′ (stepsOf l) (sym (list-is T′ l s p z) i))
+
+    pub step-touches : (k : ℕ) → touches room (sceneOf room (sessionOf room l)) st k ≡ touches T′ (sceneAfter T′ (stepsOf l) (entries s)) st k
+    step-touches k =
+        ap (λ (c : Scene). touches room c st k) scene-is
+        ∙ touches-same room objects verdicts size steps K (sceneAfter T′ (stepsOf l) (entries s)) st k
+
+    pub step-list : planOf r ≡ planned T′ l st → r .refusal ≡ 0 → entries r ≡ applied room (sceneOf room (sessionOf room l)) st .shown
+    step-list q y =
+        let a = accepted-plan T′ l st r q y in
+        let m = list-is T′ l s p z ∙ right-shown T′ l (a .0) .1 in
+        let c : replay T′ (bare T′) (stepsOf l) ≡ sceneOf room (sessionOf room l) =
+        (λ i. sceneAfter T′ (stepsOf l) (sym m i)) ∙ sym scene-is in
+        a .2
+        ∙ ap (λ (x : Scene). applied T′ x st .shown) c
+        ∙ ap (λ (x : Scene). x .shown) (sym (applied-same room objects verdicts size steps K (sceneOf room (sessionOf room l)) st))
+
+  -- a take-back of step n: r is the plan's list
+  module _ (r : Shown) (n : ℕ) (en : getD l 0 0 ≡ suc n) (q : planOf r ≡ plannedBack T′ l) (y : r .refusal ≡ 0) where
+    abbrev older : List Step
+    older = down (stepAt l) n
+
+    list-back : entries r ≡ replay T′ (bare T′) older .shown
+    unfolding plannedBack sessionOf undone
+    list-back =
+        let a = plan-and r (rightFor T′ (sessionOf T′ l)) (undone T′ (stepsOf l)) 9 q y in
+        plan-means r true 0 (replay T′ (bare T′) older .shown) (a .1 ∙ ap (undone T′) (ap (down (stepAt l)) en)) .1 y
+
+    pub back-list : entries r ≡ replay room (bare room) older .shown
+    back-list = list-back ∙ ap (λ (x : Scene). x .shown) (sym (replay-same room objects verdicts size steps K older))
+
+    pub back-touches : (k : ℕ) → touches room (replay room (bare room) older) (stepAt l n) k ≡ touches T′ (sceneAfter T′ older (entries r)) (stepAt l n) k
+    back-touches k =
+        ap (λ (x : Scene). touches room x (stepAt l n) k) (replay-same room objects verdicts size steps K older ∙ (λ i. sceneAfter T′ older (sym list-back i)))
+        ∙ touches-same room objects verdicts size steps K (sceneAfter T′ older (entries r)) (stepAt l n) k
+
+-- ---- what is to be gathered
+
+-- tables tell the room that is made of them
+pub knows-own : (objects verdicts : List ℕ) (size : Size) (steps : List Step) → Knows (tabled objects verdicts size) objects verdicts size steps
+unfolding tabled
+knows-own objects verdicts size steps =
+    record {
+      strips = refl;
+      height = refl;
+      homeX = λ o. refl;
+      homeY = λ o. refl;
+      width = λ o. refl;
+      tall = λ o. refl;
+      drawable = λ o s n. refl;
+      fault = λ o s n d z. refl;
+    }
+
+pub draws-is : (st : Step) (o s : ℕ) → draws st o s ≡ true → (p : Place) × (st ≡ Draw o s p)
+unfolding draws
+draws-is (Draw q t p) o s e =
+    let a = both (eqb o q) (eqb s t) e in
+    (p, λ i. Draw (sym (eqb-true o q (a .0)) i) (sym (eqb-true s t (a .1)) i) p)
+draws-is (Hide q) o s e = absurd (no-true e)
+
+-- a pair that a history names is drawn by one of its steps
+pub names-at : (f : ℕ → Step) (n o s : ℕ) → names (down f n) o s ≡ true → (i : ℕ) × (i < n) × (draws (f i) o s ≡ true)
+unfolding names
+names-at f zero o s e = absurd (no-true e)
+names-at f (suc n) o s e = go (draws (f n) o s) refl (names-at f n o s) e
+  where
+    go : (t : Bool) → draws (f n) o s ≡ t → (names (down f n) o s ≡ true → (i : ℕ) × (i < n) × (draws (f i) o s ≡ true))
+        → (t || names (down f n) o s) ≡ true → (i : ℕ) × (i < suc n) × (draws (f i) o s ≡ true)
+    go true q k e = (n, omega arith, q)
+    go false q k e = let a = k e in (a .0, omega (arith, a .1), a .2)

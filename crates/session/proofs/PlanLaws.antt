@@ -1,0 +1,348 @@
+-- Laws of plans: how the code's answers are the definitions'. Assumes nothing.
+use Prim.Native.Nat.{ℕ, zero, suc, _+_, _*_, _-_, _<_, _≤_}
+use mathlib.Core.Path.{_≡_, refl, sym, ap, ap₂, subst, _∙_}
+use mathlib.Core.Bool.{Bool, true, false, cond, not}
+use mathlib.Core.List.{List, [], _∷_, _++_}
+use lib.Dec.{eqb}
+use lib.ListN.{getD, length}
+use native.Mathlib.Omega.{arith}
+use borrow.Author.Tests.{eq-eqb, ne-eqb, eqb-true, eqb-false, lt-leb, not-true}
+use Rattle.scene.specs.declared.Entry.{Entry}
+use Rattle.scene.specs.declared.Place.{Place}
+use Rattle.scene.specs.declared.Place.the-variants.{Last, Strip}
+use Rattle.scene.specs.declared.Step.{Step}
+use Rattle.scene.specs.declared.Step.the-variants.{Draw, Hide}
+use Rattle.scene.specs.Painting.{Room}
+use Rattle.scene.specs.Steps.{Scene, some, without, spotOf, entryOf, clash, removes, adds, applied, allowed, refusal, bare, replay, replays}
+use Rattle.scene.specs.Session.{rightFor, sceneOf}
+use Rattle.session.specs.declared.Shown.{Shown}
+use Rattle.session.specs.declared.Spot.{Spot}
+use Rattle.session.specs.declared.Size.{Size}
+use Rattle.session.specs.Tables.{verdictOf, tabled, Sizes}
+use Rattle.session.specs.Bytes.{down, stepAt, stepsOf, sessionOf, marksFrom, sameMarks, All, Small, SmallEntry, putShown, putNewest, dropNewest}
+use Rattle.session.specs.Plans.{Plan, no, ok, goes, IsAt, judged, settledOf, planned, undone, plannedBack, numberOf, stepKept, backKept, entries, planOf, Replayed, drawnOn, hiddenOn}
+use Rattle.session.proofs.Lists.{append-nil, or-false, without-same, all-map, some-all}
+use Rattle.session.proofs.TablesLaws.{verdict-bounds, allowed-bounds}
+use Rattle.session.proofs.BytesLaws.{length-down}
+use Rattle.session.proofs.ReplayLaws.{There, accepted-few, accepted-draw, accepted-hide, applied-there, all-there, replays-older, replays-few, right-is, right-shown, right-scene}
+
+-- ---- one step
+
+pub plan-no : (r : Shown) (k : ℕ) → r .refusal ≡ k → (k ≡ 0 → ⊥) → planOf r ≡ no k
+plan-no r k e h = rw (e, ne-eqb k 0 h)
+
+pub plan-ok : (r : Shown) (es : List Entry) → r .refusal ≡ 0 → entries r ≡ es → planOf r ≡ ok es
+plan-ok r es e f = rw (e, f)
+
+draw-plan : (b a : Bool) (v : ℕ) (es : List Entry)
+    → (let k = cond (not (not b)) 11 (cond (not a) 12 v) in cond (eqb k 0) (ok es) (no k)) ≡ cond b (no 11) (cond a (cond (eqb v 0) (ok es) (no v)) (no 12))
+draw-plan true a v es = refl
+draw-plan false true v es = refl
+draw-plan false false v es = refl
+
+hide-plan : (b : Bool) (es : List Entry) → (let k = cond b 0 11 in cond (eqb k 0) (ok es) (no k)) ≡ cond b (ok es) (no 11)
+hide-plan true es = refl
+hide-plan false es = refl
+
+module _ (objects verdicts : List ℕ) (size : Size) (n : ℕ) (few : n < 64) (sc : Scene) where
+  pub judged-draw : (o s : ℕ) (p : Place)
+      → judged (tabled objects verdicts size) n sc (Draw o s p)
+      ≡ cond (eqb (verdictOf verdicts (size .count) o s) 11) (no 11)
+      (drawnOn (tabled objects verdicts size) (verdictOf verdicts (size .count) o s) (entryOf sc o s p) (sc .shown))
+  unfolding judged refusal applied adds removes tabled
+  judged-draw o s p =
+      rw (lt-leb 64 n few)
+      (draw-plan (eqb (verdictOf verdicts (size .count) o s) 11) (allowed (tabled objects verdicts size) (entryOf sc o s p)) (verdictOf verdicts (size .count) o s)
+      (without (λ f. clash (tabled objects verdicts size) f (entryOf sc o s p)) (sc .shown) ++ entryOf sc o s p ∷ []))
+
+  pub judged-hide : (o : ℕ) → judged (tabled objects verdicts size) n sc (Hide o) ≡ hiddenOn o (sc .shown)
+  unfolding judged refusal applied adds removes
+  judged-hide o =
+      rw (lt-leb 64 n few, append-nil (without (λ e. eqb (e .object) o) (sc .shown)))
+      (hide-plan (some (λ e. eqb (e .object) o) (sc .shown)) (without (λ e. eqb (e .object) o) (sc .shown)))
+
+  pub step-none : (o s : ℕ) (p : Place) (w : ℕ) (r : Shown) → w ≡ verdictOf verdicts (size .count) o s → w ≡ 11 → r .refusal ≡ 11
+      → planOf r ≡ judged (tabled objects verdicts size) n sc (Draw o s p)
+  step-none o s p w r e f g =
+      plan-no r 11 g (λ q. omega arith)
+      ∙ sym (judged-draw o s p ∙ rw (sym e ∙ f))
+
+  pub step-draw : (o s : ℕ) (p : Place) (w : ℕ) (at : Spot) (r : Shown) → w ≡ verdictOf verdicts (size .count) o s → (w ≡ 11 → ⊥)
+      → IsAt at (spotOf sc o p)
+      → planOf r ≡ drawnOn (tabled objects verdicts size) w (record { object = o; state = s; x = at .x; y = at .y }) (sc .shown)
+      → planOf r ≡ judged (tabled objects verdicts size) n sc (Draw o s p)
+  unfolding entryOf
+  step-draw o s p w at r e f a g =
+      let E : _≡_ {A = Entry} (record { object = o; state = s; x = at .x; y = at .y }) (entryOf sc o s p) =
+      λ i. record { object = o; state = s; x = a .x i; y = a .y i } in
+      g
+      ∙ ap₂ (λ (k : ℕ) (x : Entry). drawnOn (tabled objects verdicts size) k x (sc .shown)) e E
+      ∙ sym (judged-draw o s p ∙ rw (ne-eqb (verdictOf verdicts (size .count) o s) 11 (λ q. f (e ∙ q))))
+
+-- ---- the parts of a draw, and a hide
+
+module _ (room : Room) (r : Shown) (e : Entry) (es : List Entry) where
+  pub draw-off : allowed room e ≡ false → (k : ℕ) → r .refusal ≡ 12 → planOf r ≡ drawnOn room k e es
+  draw-off h k f = rw h (plan-no r 12 f (λ q. omega arith))
+
+  pub draw-fault : allowed room e ≡ true → (k : ℕ) → (k ≡ 0 → ⊥) → r .refusal ≡ k → planOf r ≡ drawnOn room k e es
+  draw-fault h k g f = rw (h, ne-eqb k 0 g) (plan-no r k f g)
+
+  pub draw-done : allowed room e ≡ true → (k : ℕ) → k ≡ 0 → r .refusal ≡ 0 → (fs : List Entry) → entries r ≡ fs ++ e ∷ []
+      → fs ≡ without (goes room true e) es → planOf r ≡ drawnOn room k e es
+  unfolding clash
+  draw-done h k g f fs a b = rw (h, eq-eqb k 0 g) (plan-ok r (without (λ x. clash room x e) es ++ e ∷ []) f (a ∙ ap (λ (l : List Entry). l ++ e ∷ []) b))
+
+  pub hide-done : some (λ x. eqb (x .object) (e .object)) es ≡ true → r .refusal ≡ 0 → entries r ≡ without (goes room false e) es
+      → planOf r ≡ hiddenOn (e .object) es
+  hide-done h f a =
+      rw h (plan-ok r (without (λ x. eqb (x .object) (e .object)) es) f
+      (a ∙ without-same (goes room false e) (λ x. eqb (x .object) (e .object)) es (λ x. or-false (eqb (x .object) (e .object)))))
+
+-- ---- a replay
+
+no-one : _≡_ {A = ℕ} 0 1 → ⊥
+no-one q = omega arith
+
+pub plan-means : (r : Shown) (b : Bool) (k : ℕ) (es : List Entry) → planOf r ≡ cond b (ok es) (no k)
+    → (eqb (r .refusal) 0 ≡ b) × (r .refusal ≡ 0 → entries r ≡ es)
+plan-means r b k es e = go (eqb (r .refusal) 0) b refl e
+  where
+    go : (a b : Bool) → eqb (r .refusal) 0 ≡ a → cond a (ok (entries r)) (no (r .refusal)) ≡ cond b (ok es) (no k)
+        → (a ≡ b) × (r .refusal ≡ 0 → entries r ≡ es)
+    go true true q f = (refl, λ z. cc)
+    go true false q f = let z : _≡_ {A = ℕ} 0 1 = cc in absurd (no-one z)
+    go false true q f = let z : _≡_ {A = ℕ} 0 1 = cc in absurd (no-one z)
+    go false false q f = (refl, λ z. absurd (eqb-false (r .refusal) 0 q z))
+
+module _ (room : Room) (h : List Step) (st : Step) (s : Shown) (R : Replayed room h s) where
+  pub next-refused : (s .refusal ≡ 0 → ⊥) → Replayed room (st ∷ h) s
+  unfolding replays
+  next-refused k =
+      let few = R .few in
+      let f : eqb (s .refusal) 0 ≡ false = ne-eqb (s .refusal) 0 k in
+      let g : replays room (bare room) h ≡ false = sym (R .right) ∙ f in
+      record { right = f ∙ rw g; list = λ z. absurd (k z); few = omega arith }
+
+  pub next-step : s .refusal ≡ 0 → (r : Shown) (n : ℕ) → n ≡ length h
+      → planOf r ≡ judged room n (record { shown = entries s; last = replay room (bare room) h .last }) st → r .n ≤ s .n + 1
+      → Replayed room (st ∷ h) r
+  unfolding replays replay judged
+  next-step k r n en e m =
+      let few = R .few in
+      let sc = replay room (bare room) h in
+      let same : _≡_ {A = Scene} (record { shown = entries s; last = sc .last }) sc = λ i. record { shown = R .list k i; last = sc .last } in
+      let q = refusal room (length h) sc st in
+      let p : planOf r ≡ cond (eqb q 0) (ok (applied room sc st .shown)) (no q) =
+      e ∙ ap₂ (λ (m : ℕ) (c : Scene). judged room m c st) en same in
+      let means = plan-means r (eqb q 0) q (applied room sc st .shown) p in
+      let t : replays room (bare room) h ≡ true = sym (R .right) ∙ eq-eqb (s .refusal) 0 k in
+      record { right = means .0 ∙ rw t; list = means .1; few = omega arith }
+
+-- ---- a settled session
+
+module _ (room : Room) (l : List ℕ) (s r : Shown) (n : ℕ) (en : n ≡ getD l 0 0) where
+  wrong : rightFor room (sessionOf room l) ≡ false → r .refusal ≡ 9 → planOf r ≡ settledOf room l
+  unfolding settledOf
+  wrong f e = rw f (plan-no r 9 e (λ q. omega arith))
+
+  not-replayed : replays room (bare room) (stepsOf l) ≡ false → rightFor room (sessionOf room l) ≡ false
+  not-replayed f = right-is room l ∙ rw f
+
+  -- the history has more than 64 steps
+  pub settled-long : 64 < n → r .refusal ≡ 9 → planOf r ≡ settledOf room l
+  settled-long h e = wrong (not-replayed (go (replays room (bare room) (stepsOf l)) refl)) e
+    where
+      go : (t : Bool) → replays room (bare room) (stepsOf l) ≡ t → t ≡ false
+      go true q = absurd (omega (arith, replays-few room (stepsOf l) q, length-down (stepAt l) (getD l 0 0)))
+      go false q = refl
+
+  module _ (R : Replayed room (down (stepAt l) n) s) where
+    R′ : Replayed room (stepsOf l) s
+    R′ = subst (λ (k : ℕ). Replayed room (down (stepAt l) k) s) en R
+
+    -- a step of it is refused
+    pub settled-no : (s .refusal ≡ 0 → ⊥) → r .refusal ≡ 9 → planOf r ≡ settledOf room l
+    settled-no k e = wrong (not-replayed (sym (R′ .right) ∙ ne-eqb (s .refusal) 0 k)) e
+
+    right-then : s .refusal ≡ 0 → (t : Bool) → t ≡ sameMarks (marksFrom l 0 (getD l 1 0)) (entries s) → rightFor room (sessionOf room l) ≡ t
+    right-then k t f =
+        right-is room l
+        ∙ rw (sym (R′ .right) ∙ eq-eqb (s .refusal) 0 k, ← R′ .list k) (sym f)
+
+    -- it replays to another list
+    pub settled-off : s .refusal ≡ 0 → false ≡ sameMarks (marksFrom l 0 (getD l 1 0)) (entries s) → r .refusal ≡ 9 → planOf r ≡ settledOf room l
+    settled-off k f e = wrong (right-then k false f) e
+
+    pub settled-yes : s .refusal ≡ 0 → true ≡ sameMarks (marksFrom l 0 (getD l 1 0)) (entries s) → planOf s ≡ settledOf room l
+    unfolding settledOf
+    settled-yes k f =
+        let t = right-then k true f in
+        rw t (plan-ok s (sessionOf room l .shown) k (R′ .list k ∙ sym (right-shown room l t .1)))
+
+-- ---- a draw or a hide, and a take-back, of a settled session
+
+judged-full : (room : Room) (n : ℕ) (sc : Scene) (st : Step) → n ≡ 64 → judged room n sc st ≡ no 10
+unfolding judged refusal
+judged-full room n sc (Draw o s p) e = rw e
+judged-full room n sc (Hide o) e = rw e
+
+module _ (room : Room) (l : List ℕ) (s : Shown) (e : planOf s ≡ settledOf room l) where
+  right-if : (b : Bool) → eqb (s .refusal) 0 ≡ b → rightFor room (sessionOf room l) ≡ b
+  unfolding settledOf
+  right-if b q = sym (plan-means s (rightFor room (sessionOf room l)) 9 (sessionOf room l .shown) e .0) ∙ q
+
+  pub list-is : s .refusal ≡ 0 → entries s ≡ sessionOf room l .shown
+  unfolding settledOf
+  list-is z = plan-means s (rightFor room (sessionOf room l)) 9 (sessionOf room l .shown) e .1 z
+
+  -- the session is not right
+  nine : (s .refusal ≡ 0 → ⊥) → planOf s ≡ no 9
+  unfolding settledOf
+  nine h = e ∙ rw (right-if false (ne-eqb (s .refusal) 0 h))
+
+  pub plan-wrong : (st : Step) → (s .refusal ≡ 0 → ⊥) → planOf s ≡ planned room l st
+  unfolding planned
+  plan-wrong st h = nine h ∙ rw (right-if false (ne-eqb (s .refusal) 0 h))
+
+  pub back-wrong : (s .refusal ≡ 0 → ⊥) → planOf s ≡ plannedBack room l
+  unfolding plannedBack
+  back-wrong h = nine h ∙ rw (right-if false (ne-eqb (s .refusal) 0 h))
+
+  module _ (z : s .refusal ≡ 0) (r : Shown) (n : ℕ) (en : n ≡ getD l 0 0) where
+    right : rightFor room (sessionOf room l) ≡ true
+    right = right-if true (eq-eqb (s .refusal) 0 z)
+
+    -- the history has no room for a step
+    pub plan-full : (st : Step) → n ≡ 64 → r .refusal ≡ 10 → planOf r ≡ planned room l st
+    unfolding planned sessionOf
+    plan-full st f g =
+        plan-no r 10 g (λ q. omega arith)
+        ∙ sym (rw right (judged-full room (length (stepsOf l)) (sceneOf room (sessionOf room l)) st (length-down (stepAt l) (getD l 0 0) ∙ sym en ∙ f)))
+
+    pub plan-yes : (st : Step) → planOf r ≡ judged room n (record { shown = entries s; last = replay room (bare room) (down (stepAt l) n) .last }) st
+        → planOf r ≡ planned room l st
+    unfolding planned sceneOf sessionOf
+    plan-yes st f =
+        let same : _≡_ {A = Scene} (record { shown = entries s; last = replay room (bare room) (down (stepAt l) n) .last }) (sceneOf room (sessionOf room l)) =
+        λ i. record { shown = list-is z i; last = replay room (bare room) (down (stepAt l) (en i)) .last } in
+        f
+        ∙ ap₂ (λ (k : ℕ) (c : Scene). judged room k c st) (en ∙ sym (length-down (stepAt l) (getD l 0 0))) same
+        ∙ sym (rw right)
+
+    pub back-none : n ≡ 0 → r .refusal ≡ 13 → planOf r ≡ plannedBack room l
+    unfolding plannedBack sessionOf undone
+    back-none f g =
+        plan-no r 13 g (λ q. omega arith)
+        ∙ sym (rw right (ap (undone room) (ap (down (stepAt l)) (sym en ∙ f))))
+
+    newest : (n ≡ 0 → ⊥) → stepsOf l ≡ stepAt l (n - 1) ∷ down (stepAt l) (n - 1)
+    newest h = ap (down (stepAt l)) (sym en ∙ count-down n h)
+      where
+        count-down : (k : ℕ) → (k ≡ 0 → ⊥) → k ≡ suc (k - 1)
+        count-down zero h = absurd (h refl)
+        count-down (suc k) h = omega arith
+
+    module _ (h : n ≡ 0 → ⊥) (R : Replayed room (down (stepAt l) (n - 1)) r) where
+      older : replays room (bare room) (down (stepAt l) (n - 1)) ≡ true
+      older =
+          replays-older room (stepAt l (n - 1)) (down (stepAt l) (n - 1))
+          (subst (λ (k : List Step). replays room (bare room) k ≡ true) (newest h) (right-shown room l right .0)) .0
+
+      accepted : r .refusal ≡ 0
+      accepted = eqb-true (r .refusal) 0 (R .right ∙ older)
+
+      pub back-yes : planOf r ≡ plannedBack room l
+      unfolding plannedBack sessionOf undone
+      back-yes =
+          plan-ok r (replay room (bare room) (down (stepAt l) (n - 1)) .shown) accepted (R .list accepted)
+          ∙ sym (rw right (ap (undone room) (newest h)))
+
+-- ---- what an accepted plan may store
+
+pub plan-and : (r : Shown) (b : Bool) (X : Plan) (k : ℕ) → planOf r ≡ cond b X (no k) → r .refusal ≡ 0 → (b ≡ true) × (planOf r ≡ X)
+plan-and r true X k e q = (refl, e)
+plan-and r false X k e q =
+    let f : ok (entries r) ≡ no k = sym (plan-ok r (entries r) q refl) ∙ e in
+    let z : _≡_ {A = ℕ} 0 1 = cc in
+    absurd (no-one z)
+
+pub accepted-plan : (room : Room) (l : List ℕ) (st : Step) (r : Shown) → planOf r ≡ planned room l st → r .refusal ≡ 0
+    → (rightFor room (sessionOf room l) ≡ true) × (refusal room (length (stepsOf l)) (replay room (bare room) (stepsOf l)) st ≡ 0)
+    × (entries r ≡ applied room (replay room (bare room) (stepsOf l)) st .shown)
+unfolding planned judged sessionOf
+accepted-plan room l st r e q =
+    let a = plan-and r (rightFor room (sessionOf room l)) (judged room (length (stepsOf l)) (sceneOf room (sessionOf room l)) st) 9 e q in
+    let n = length (stepsOf l) in
+    let sc = replay room (bare room) (stepsOf l) in
+    let k = refusal room n sc st in
+    let f : planOf r ≡ cond (eqb k 0) (ok (applied room sc st .shown)) (no k) =
+    a .1 ∙ ap (λ (c : Scene). judged room n c st) (right-scene room l (a .0)) in
+    let m = plan-means r (eqb k 0) k (applied room sc st .shown) f in
+    (a .0, eqb-true k 0 (sym (m .0) ∙ eq-eqb (r .refusal) 0 q), m .1 q)
+
+module _ (objects verdicts : List ℕ) (size : Size) (z : Sizes size) where
+  abbrev T : Room
+  T = tabled objects verdicts size
+
+  there-small : (o s : ℕ) → T .drawable o s ≡ true → (o ≤ 128) × (s ≤ 9)
+  unfolding tabled
+  there-small o s h =
+      let v = not-true (eqb (verdictOf verdicts (size .count) o s) 11) h in
+      let b = verdict-bounds verdicts (size .count) o s (eqb-false (verdictOf verdicts (size .count) o s) 11 v) in
+      (omega arith, b .1)
+
+  pub all-small : (es : List Entry) → All (There T) es → All SmallEntry es
+  all-small es a = all-map (There T) SmallEntry es (λ e h. there-small (e .object) (e .state) h) a
+
+  strip-bounds : (sc : Scene) (o s x y : ℕ) → allowed T (entryOf sc o s (Strip x y)) ≡ true → (8 * x < 1024) × (8 * y < 200)
+  unfolding entryOf spotOf
+  strip-bounds sc o s x y h = allowed-bounds objects verdicts size (entryOf sc o s (Strip x y)) z h
+
+  step-small : (n : ℕ) (sc : Scene) (st : Step) → All (There T) (sc .shown) → refusal T n sc st ≡ 0 → Small st
+  step-small n sc (Hide o) a e =
+      some-all (There T) (λ x. eqb (x .object) o) (o ≤ 128) (sc .shown)
+      (λ x h b. subst (λ (k : ℕ). k ≤ 128) (eqb-true (x .object) o h) (there-small (x .object) (x .state) b .0)) a (accepted-hide T n sc o e)
+  step-small n sc (Draw o s Last) a e = there-small o s (accepted-draw T n sc o s Last e .0)
+  step-small n sc (Draw o s (Strip x y)) a e =
+      let d = accepted-draw T n sc o s (Strip x y) e in
+      let t = there-small o s (d .0) in
+      let b = strip-bounds sc o s x y (d .1) in
+      (t .0, t .1, omega arith, omega arith)
+
+  pub planned-small : (l : List ℕ) (st : Step) (r : Shown) → planOf r ≡ planned T l st → r .refusal ≡ 0
+      → (getD l 0 0 < 64) × Small st × All SmallEntry (entries r)
+  planned-small l st r e q =
+      let a = accepted-plan T l st r e q in
+      let t = all-there T (stepsOf l) (right-shown T l (a .0) .0) in
+      let few = accepted-few T (length (stepsOf l)) (replay T (bare T) (stepsOf l)) st (a .1) in
+      let n = length-down (stepAt l) (getD l 0 0) in (
+        omega arith,
+        step-small (length (stepsOf l)) (replay T (bare T) (stepsOf l)) st t (a .1),
+        subst (All SmallEntry) (sym (a .2)) (all-small (applied T (replay T (bare T) (stepsOf l)) st .shown) (applied-there T (length (stepsOf l)) (replay T (bare T) (stepsOf l)) st (a .1) t)),
+      )
+
+  pub back-small : (h : List Step) (r : Shown) → Replayed T h r → r .refusal ≡ 0 → All SmallEntry (entries r)
+  back-small h r R q =
+      subst (All SmallEntry) (sym (R .list q)) (all-small (replay T (bare T) h .shown) (all-there T h (sym (R .right) ∙ eq-eqb (r .refusal) 0 q)))
+
+-- ---- the bytes after a plan
+
+module _ (l : List ℕ) (P : Plan) (r : Shown) (e : planOf r ≡ P) where
+  number-no : (r .refusal ≡ 0 → ⊥) → r .refusal ≡ numberOf P
+  number-no h = rw (← e, ne-eqb (r .refusal) 0 h)
+
+  number-ok : r .refusal ≡ 0 → 0 ≡ numberOf P
+  number-ok h = rw (← e, h)
+
+  pub act-no : (st : Step) → (r .refusal ≡ 0 → ⊥) → (r .refusal ≡ numberOf P) × (l ≡ stepKept l st P)
+  act-no st h = (number-no h, rw (← e, ne-eqb (r .refusal) 0 h))
+
+  pub act-yes : (st : Step) (p q : List ℕ) → r .refusal ≡ 0 → p ≡ putNewest l st → q ≡ putShown p (entries r) → (0 ≡ numberOf P) × (q ≡ stepKept l st P)
+  act-yes st p q h ep eq = (number-ok h, rw (← e, h, ← ep) eq)
+
+  pub back-kept : (r .refusal ≡ 0 → ⊥) → (r .refusal ≡ numberOf P) × (l ≡ backKept l P)
+  back-kept h = (number-no h, rw (← e, ne-eqb (r .refusal) 0 h))
+
+  pub back-done : (p q : List ℕ) → r .refusal ≡ 0 → p ≡ dropNewest l → q ≡ putShown p (entries r) → (0 ≡ numberOf P) × (q ≡ backKept l P)
+  back-done p q h ep eq = (number-ok h, rw (← e, h, ← ep) eq)

@@ -1,0 +1,22 @@
+-- `session::touch::is_covered` meets its contract. Assumes nothing.
+use Rattle.session.specs.Tables.{tabled}
+use Rattle.scene.specs.Painting.{covers}
+use borrow.Author.Needs.{needs}
+use Rattle.session.proofs.touch.is_covered.Statement.{statement}
+use Rattle.session.proofs.touch.is_covered.Tie as tie
+
+wide-requires : tie.Need-wide-requires
+wide-requires c κs = search needs
+
+cell-requires : tie.Need-cell-requires
+cell-requires c κs = search needs
+
+add-result : tie.Need-add-result
+add-result c = search needs
+
+returns : tie.Need-returns
+unfolding covers tabled
+returns c = λ v. rw (c .before .wide .ensures .0, c .cell .ensures .0)
+
+pub is-covered-spec : {M : Type 1} → statement M
+is-covered-spec = tie.close (tie.spec wide-requires cell-requires add-result returns)

@@ -1,0 +1,42 @@
+//! Document 01 as code: plain and short rather than fast. Written from the papers alone, without a look at the library, so that a
+//! difference between the two means something. A call answers document 01's number, 0 if accepted, and writes what it is lent only then.
+
+pub mod actor;
+pub mod block;
+pub mod costume;
+pub mod load;
+pub mod mask;
+pub mod object;
+pub mod room;
+pub mod strip;
+pub mod table;
+pub mod write;
+
+/// The refusals that these calls give (document 01, "Numbered refusals").
+pub const TREE: u32 = 1;
+pub const NEEDED: u32 = 2;
+pub const SIZE: u32 = 3;
+pub const SHORT: u32 = 4;
+pub const TABLE: u32 = 5;
+pub const CODE: u32 = 6;
+pub const CUT: u32 = 7;
+pub const PAST: u32 = 8;
+pub const NO_OBJECT: u32 = 11;
+pub const OUTSIDE: u32 = 14;
+pub const ANIMATION: u32 = 15;
+
+pub(crate) fn u16_at(bytes: &[u8], at: usize) -> usize {
+    u16::from_le_bytes([bytes[at], bytes[at + 1]]) as usize
+}
+
+pub(crate) fn u32_at(bytes: &[u8], at: usize) -> usize {
+    u32::from_le_bytes([bytes[at], bytes[at + 1], bytes[at + 2], bytes[at + 3]]) as usize
+}
+
+/// Document 01, "Sizes": W a multiple of 8 from 8 to 1,024, H from 1 to 200, N from 0 to 4.
+pub fn sizes_ok(w: usize, h: usize, n: usize) -> bool {
+    w % 8 == 0 && (8..=1024).contains(&w) && (1..=200).contains(&h) && n <= 4
+}
+
+#[cfg(test)]
+mod rows;

@@ -1,0 +1,36 @@
+//! The load and the room's record (document 01, "Sizes" and "Sessions": "A load empties it"; docs/LAYOUTS.md).
+
+use crate::room::test;
+
+pub const RECORD: usize = 16;
+pub const SESSION: usize = 450;
+
+/// The room's record: W, H, N, objects as u16, the transparent index 255, zeros.
+pub fn record(room: &[u8], record: &mut [u8]) -> u32 {
+    match test(room, |_| record.len() >= RECORD) {
+        Err(number) => number,
+        Ok(painted) => {
+            let room = painted.room;
+            record[..RECORD].fill(0);
+            for (i, number) in [room.w, room.h, room.n, room.objects.len()].into_iter().enumerate() {
+                record[2 * i..2 * i + 2].copy_from_slice(&(number as u16).to_le_bytes());
+            }
+            record[8] = 255;
+            0
+        }
+    }
+}
+
+/// Pixels, masks and the emptied session.
+pub fn load(room: &[u8], session: &mut [u8], pixels: &mut [u8], masks: &mut [u8]) -> u32 {
+    let lent = |room: &crate::room::Room| session.len() >= SESSION && pixels.len() >= room.pixels() && masks.len() >= room.masks();
+    match test(room, lent) {
+        Err(number) => number,
+        Ok(painted) => {
+            session[..SESSION].fill(0);
+            pixels[..painted.pixels.len()].copy_from_slice(&painted.pixels);
+            masks[..painted.masks.len()].copy_from_slice(&painted.masks);
+            0
+        }
+    }
+}

@@ -1,0 +1,40 @@
+//! An object's header and name (document 01, "Blocks"; source 003 for CDHD; docs/LAYOUTS.md).
+
+use crate::block::{first, Block};
+use crate::room::{test, Room};
+use crate::NO_OBJECT;
+
+pub const HEADER: usize = 16;
+
+/// "Objects are numbered from 1 in OBCD order."
+fn object_at(room: &Room, object: u32) -> Result<Block, u32> {
+    (object as usize).checked_sub(1).and_then(|i| room.objects.get(i)).copied().ok_or(NO_OBJECT)
+}
+
+/// CDHD's 13 bytes, then zeros.
+pub fn header(room: &[u8], header: &mut [u8], object: u32) -> u32 {
+    match test(room, |_| header.len() >= HEADER).and_then(|painted| object_at(&painted.room, object)) {
+        Err(number) => number,
+        Ok(obcd) => {
+            let cdhd = first(room, obcd, b"CDHD").expect("a tested room");
+            header[..13].copy_from_slice(&cdhd.payload(room)[..13]);
+            header[13..HEADER].fill(0);
+            0
+        }
+    }
+}
+
+/// "OBNA up to its first NUL or its end, `@` kept, empty if there is no OBNA": number, start and length. An empty name without OBNA,
+/// or a refused one, is 0 and 0; one with OBNA stands where OBNA's payload does (READINGS 24).
+pub fn name(room: &[u8], object: u32) -> (u32, usize, usize) {
+    match test(room, |_| true).and_then(|painted| object_at(&painted.room, object)) {
+        Err(number) => (number, 0, 0),
+        Ok(obcd) => match first(room, obcd, b"OBNA") {
+            None => (0, 0, 0),
+            Some(obna) => {
+                let text = obna.payload(room);
+                (0, obna.start + 8, text.iter().position(|byte| *byte == 0).unwrap_or(text.len()))
+            }
+        },
+    }
+}

@@ -1,0 +1,74 @@
+//! The whole test of a room, as every call that takes room bytes makes it (document 01, "Numbered refusals" and "Blocks").
+
+use crate::block::{children, first, root, Block};
+use crate::{mask, sizes_ok, strip, u16_at, NEEDED, SHORT, SIZE, TREE};
+
+/// A room's numbers and its objects' OBCD blocks.
+pub struct Room {
+    pub w: usize,
+    pub h: usize,
+    pub n: usize,
+    pub objects: Vec<Block>,
+}
+
+impl Room {
+    pub fn pixels(&self) -> usize {
+        self.w * self.h
+    }
+
+    pub fn masks(&self) -> usize {
+        self.n * (self.w / 8) * self.h
+    }
+}
+
+/// What an accepted room holds: its numbers, its background and its planes.
+pub struct Painted {
+    pub room: Room,
+    pub pixels: Vec<u8>,
+    pub masks: Vec<u8>,
+}
+
+/// A needed block with its fixed fields, or refusal 2.
+fn needed(bytes: &[u8], parent: Block, tag: &[u8], fields: usize) -> Result<Block, u32> {
+    first(bytes, parent, tag).filter(|block| block.payload(bytes).len() >= fields).ok_or(NEEDED)
+}
+
+/// "Order: 1, 2, 3, 4 for the room; then the background and planes 1 to N". `lent` says whether the call's buffers are long enough.
+pub fn test(bytes: &[u8], lent: impl FnOnce(&Room) -> bool) -> Result<Painted, u32> {
+    // 1
+    let root = root(bytes).ok_or(TREE)?;
+    // 2
+    let rmhd = needed(bytes, root, b"RMHD", 6)?;
+    let rmim = needed(bytes, root, b"RMIM", 0)?;
+    let rmih = needed(bytes, rmim, b"RMIH", 2)?;
+    let im00 = needed(bytes, rmim, b"IM00", 0)?;
+    let smap = needed(bytes, im00, b"SMAP", 0)?;
+    let objects = children(bytes, root, b"OBCD");
+    for obcd in &objects {
+        needed(bytes, *obcd, b"CDHD", 13)?;
+    }
+    for obim in children(bytes, root, b"OBIM") {
+        needed(bytes, obim, b"IMHD", 16)?;
+    }
+    // 3
+    let (w, h) = (u16_at(rmhd.payload(bytes), 0), u16_at(rmhd.payload(bytes), 2));
+    let n = u16_at(rmih.payload(bytes), 0);
+    if !sizes_ok(w, h, n) || objects.len() > 128 {
+        return Err(SIZE);
+    }
+    // 4
+    let room = Room { w, h, n, objects };
+    if !lent(&room) {
+        return Err(SHORT);
+    }
+    // 5 to 8: the background, then the planes; "a missing plane is all zero, planes above N aren't looked at"
+    let pixels = strip::picture(smap.bytes(bytes), w, h)?;
+    let mut masks = Vec::new();
+    for k in 1..=n {
+        match first(bytes, im00, format!("ZP0{k}").as_bytes()) {
+            Some(plane) => masks.extend(mask::plane(plane.bytes(bytes), w / 8, h)?),
+            None => masks.extend(vec![0; w / 8 * h]),
+        }
+    }
+    Ok(Painted { room, pixels, masks })
+}

@@ -1,0 +1,142 @@
+//! Runs one call on the library and on the reference, compares every byte, and keeps the count.
+
+use crate::lent::Slot;
+use crate::rng::Rng;
+use std::collections::BTreeMap;
+use std::sync::atomic::{AtomicU64, AtomicUsize, Ordering::Relaxed};
+
+pub const CALLS: [&str; 12] =
+    ["record", "load", "header", "name", "name_number", "hidden", "stamp", "start", "tick", "limb_draws", "write_smap", "write_plane"];
+/// The numbers that a full run must have reached.
+const NUMBERS: [u32; 12] = [0, 1, 2, 3, 4, 5, 6, 7, 8, 11, 14, 15];
+
+/// What runs now, for the signal handler.
+static SEED: AtomicU64 = AtomicU64::new(0);
+static CALL: AtomicUsize = AtomicUsize::new(0);
+
+extern "C" {
+    fn signal(number: i32, handler: extern "C" fn(i32)) -> usize;
+    fn alarm(seconds: u32) -> u32;
+    fn _exit(status: i32) -> !;
+}
+
+extern "C" fn fell(number: i32) {
+    let what = if number == 14 { "doesn't end" } else { "touches memory that it wasn't lent" };
+    println!("DIFFERENCE seed {} call kg_{}: {what} (signal {number})", SEED.load(Relaxed), CALLS[CALL.load(Relaxed)]);
+    unsafe { _exit(1) }
+}
+
+pub struct Bench {
+    slots: Vec<Slot>,
+    place: Rng,
+    seed: u64,
+    pub cases: u64,
+    counts: BTreeMap<(usize, u32), u64>,
+    differences: BTreeMap<String, u64>,
+}
+
+impl Bench {
+    pub fn new() -> Bench {
+        for number in [4, 7, 8, 11, 14] {
+            unsafe { signal(number, fell) };
+        }
+        Bench {
+            slots: (0..4).map(|_| Slot::new()).collect(),
+            place: Rng::new(0),
+            seed: 0,
+            cases: 0,
+            counts: BTreeMap::new(),
+            differences: BTreeMap::new(),
+        }
+    }
+
+    /// A new scene: its seed is what a failure prints.
+    pub fn scene(&mut self, seed: u64) -> Rng {
+        SEED.store(seed, Relaxed);
+        unsafe { alarm(120) };
+        self.place = Rng::new(!seed);
+        self.seed = seed;
+        Rng::new(seed)
+    }
+
+    /// A difference: printed the first three times of its kind, counted always.
+    pub fn differ(&mut self, call: &str, kind: &str, text: &str) {
+        let kind = format!("kg_{call}: {kind}");
+        let seen = self.differences.entry(kind.clone()).or_default();
+        *seen += 1;
+        if *seen <= 3 {
+            println!("DIFFERENCE seed {} call {kind}\n    {text}", self.seed);
+        }
+    }
+
+    /// One case. `library` gets pointers to guarded copies of the buffers, `reference` gets copies; each answers one word, and the
+    /// reference document 01's number too. Answers the reference's word and buffers.
+    pub fn case(
+        &mut self,
+        call: &str,
+        numbers: &[i64],
+        buffers: &[(&str, &[u8])],
+        library: impl FnOnce(&[*mut u8]) -> u64,
+        reference: impl FnOnce(&mut [Vec<u8>]) -> (u32, u64),
+    ) -> (u32, u64, Vec<Vec<u8>>) {
+        let index = CALLS.iter().position(|known| *known == call).unwrap();
+        CALL.store(index, Relaxed);
+        let mut pointers = Vec::new();
+        for (slot, (_, bytes)) in self.slots.iter_mut().zip(buffers) {
+            pointers.push(slot.lend(bytes, self.place.pick(&[0, 0, 0, 0, 1, 1, 2, 3, 5])));
+        }
+        let got = library(&pointers);
+        let mut after: Vec<Vec<u8>> = buffers.iter().map(|(_, bytes)| bytes.to_vec()).collect();
+        let (number, want) = reference(&mut after);
+        self.cases += 1;
+        *self.counts.entry((index, number)).or_default() += 1;
+
+        let sizes: Vec<String> = buffers.iter().map(|(name, bytes)| format!("{name}[{}]", bytes.len())).collect();
+        let text = |what: String| format!("{} numbers {numbers:?}: {what}", sizes.join(" "));
+        if got != want {
+            let halves = |word: u64| format!("number {} value {}", word as u32, word >> 32);
+            let kind = format!("answers {} where the reference answers {}", got as u32, want as u32);
+            let kind = if call == "name" { "answers another place".into() } else { kind };
+            self.differ(call, &kind, &text(format!("library {}, reference {}", halves(got), halves(want))));
+        }
+        for (i, (name, before)) in buffers.iter().enumerate() {
+            assert!(number == 0 || after[i] == *before, "the reference changed {name} although it refused");
+            if let Some((at, is, wanted)) = self.slots[i].differs(&after[i]) {
+                let kind = format!("leaves another {name} (number {})", want as u32);
+                self.differ(call, &kind, &text(format!("{name}, first differing byte {at}: library {is:02X}, reference {wanted:02X}")));
+            }
+        }
+        (number, want, after)
+    }
+
+    /// The table, and whether all is well.
+    pub fn report(&self, all_numbers: bool) -> bool {
+        print!("{:>12}", "");
+        NUMBERS.iter().for_each(|number| print!("{number:>9}"));
+        println!();
+        for (index, call) in CALLS.iter().enumerate() {
+            print!("{call:>12}");
+            for number in NUMBERS {
+                match self.counts.get(&(index, number)) {
+                    Some(count) => print!("{count:>9}"),
+                    None => print!("{:>9}", "."),
+                }
+            }
+            println!();
+        }
+        let sum = |number: u32| self.counts.iter().filter(|((_, n), _)| *n == number).map(|(_, count)| count).sum::<u64>();
+        print!("{:>12}", "all");
+        NUMBERS.iter().for_each(|number| print!("{:>9}", sum(*number)));
+        println!();
+        let missing: Vec<u32> = NUMBERS.into_iter().filter(|number| sum(*number) == 0).collect();
+        if all_numbers && !missing.is_empty() {
+            println!("never reached: {missing:?}");
+        }
+        for (kind, count) in &self.differences {
+            println!("{count} times {kind}");
+        }
+        let differences: u64 = self.differences.values().sum();
+        println!("{} cases, {differences} differences", self.cases);
+        differences == 0 && !(all_numbers && !missing.is_empty())
+    }
+}

@@ -1,0 +1,165 @@
+//! The C interface (include/kildegrom.h), each call beside the reference's.
+
+use crate::bench::Bench;
+use reference::{actor, costume, load as loads, object, write};
+
+extern "C" {
+    fn kg_record(room: *const u8, room_size: usize, record: *mut u8, record_size: usize) -> u32;
+    fn kg_load(
+        room: *const u8,
+        room_size: usize,
+        session: *mut u8,
+        session_size: usize,
+        pixels: *mut u8,
+        pixels_size: usize,
+        masks: *mut u8,
+        masks_size: usize,
+    ) -> u32;
+    fn kg_header(room: *const u8, room_size: usize, header: *mut u8, header_size: usize, object: u32) -> u32;
+    fn kg_name(room: *const u8, room_size: usize, object: u32) -> u64;
+    fn kg_name_number(room: *const u8, room_size: usize, object: u32) -> u32;
+    fn kg_hidden(masks: *const u8, masks_size: usize, w: u32, h: u32, n: u32, clip: u32, x: u32, y: u32) -> u64;
+    fn kg_stamp(
+        frame: *mut u8,
+        frame_size: usize,
+        masks: *const u8,
+        masks_size: usize,
+        picture: *const u8,
+        picture_size: usize,
+        w: u32,
+        h: u32,
+        n: u32,
+        width: u32,
+        height: u32,
+        x: i32,
+        y: i32,
+        clip: u32,
+    ) -> u32;
+    fn kg_start(
+        payload: *const u8,
+        payload_size: usize,
+        limbs: *mut u8,
+        limbs_size: usize,
+        table: u32,
+        count: u32,
+        command: u32,
+        chore: u32,
+        direction: u32,
+    ) -> u64;
+    fn kg_tick(payload: *const u8, payload_size: usize, limbs: *mut u8, limbs_size: usize, command: u32) -> u32;
+    fn kg_limb_draws(limbs: *const u8, limbs_size: usize, limb: u32) -> u64;
+    fn kg_write_smap(rows: *const u8, rows_size: usize, out: *mut u8, out_size: usize, w: u32, h: u32) -> u64;
+    fn kg_write_plane(rows: *const u8, rows_size: usize, out: *mut u8, out_size: usize, w: u32, h: u32, k: u32) -> u64;
+}
+
+/// A number alone, and a number with a value (docs/LAYOUTS.md, "Answers of two parts").
+fn number(number: u32) -> (u32, u64) {
+    (number, number as u64)
+}
+
+fn word(answer: Result<usize, u32>) -> (u32, u64) {
+    match answer {
+        Ok(value) => (0, (value as u64) << 32),
+        Err(number) => (number, number as u64),
+    }
+}
+
+pub fn record(b: &mut Bench, room: &[u8], record: &[u8]) {
+    let library = |p: &[*mut u8]| unsafe { kg_record(p[0], room.len(), p[1], record.len()) as u64 };
+    b.case("record", &[], &[("room", room), ("record", record)], library, |after| number(loads::record(room, &mut after[1])));
+}
+
+/// The load: its number, pixels and masks.
+pub fn load(b: &mut Bench, room: &[u8], session: &[u8], pixels: &[u8], masks: &[u8]) -> (u32, Vec<u8>, Vec<u8>) {
+    let library = |p: &[*mut u8]| unsafe { kg_load(p[0], room.len(), p[1], session.len(), p[2], pixels.len(), p[3], masks.len()) as u64 };
+    let buffers = [("room", room), ("session", session), ("pixels", pixels), ("masks", masks)];
+    let (answer, _, mut after) = b.case("load", &[], &buffers, library, |after| {
+        let [_, session, pixels, masks] = after else { unreachable!() };
+        number(loads::load(room, session, pixels, masks))
+    });
+    let masks = after.pop().unwrap();
+    (answer, after.pop().unwrap(), masks)
+}
+
+pub fn header(b: &mut Bench, room: &[u8], header: &[u8], which: u32) {
+    let library = |p: &[*mut u8]| unsafe { kg_header(p[0], room.len(), p[1], header.len(), which) as u64 };
+    let buffers = [("room", room), ("header", header)];
+    b.case("header", &[which as i64], &buffers, library, |after| number(object::header(room, &mut after[1], which)));
+}
+
+pub fn name(b: &mut Bench, room: &[u8], which: u32) {
+    let (answer, start, length) = object::name(room, which);
+    let library = |p: &[*mut u8]| unsafe { kg_name(p[0], room.len(), which) };
+    let place = start as u64 | (length as u64) << 32;
+    b.case("name", &[which as i64], &[("room", room)], library, |_| (answer, place));
+    let library = |p: &[*mut u8]| unsafe { kg_name_number(p[0], room.len(), which) as u64 };
+    b.case("name_number", &[which as i64], &[("room", room)], library, |_| number(answer));
+}
+
+pub fn hidden(b: &mut Bench, masks: &[u8], w: u32, h: u32, n: u32, clip: u32, x: u32, y: u32) {
+    let library = |p: &[*mut u8]| unsafe { kg_hidden(p[0], masks.len(), w, h, n, clip, x, y) };
+    let numbers = [w, h, n, clip, x, y].map(i64::from);
+    b.case("hidden", &numbers, &[("masks", masks)], library, |_| word(actor::hidden(masks, w, h, n, clip, x, y).map(usize::from)));
+}
+
+pub fn stamp(b: &mut Bench, frame: &[u8], masks: &[u8], w: u32, h: u32, n: u32, a: &actor::Actor) {
+    let library = |p: &[*mut u8]| unsafe {
+        let (width, height) = (a.width, a.height);
+        kg_stamp(p[0], frame.len(), p[1], masks.len(), p[2], a.picture.len(), w, h, n, width, height, a.x, a.y, a.clip) as u64
+    };
+    let numbers = [w as i64, h as i64, n as i64, a.width as i64, a.height as i64, a.x as i64, a.y as i64, a.clip as i64];
+    let buffers = [("frame", frame), ("masks", masks), ("picture", a.picture)];
+    b.case("stamp", &numbers, &buffers, library, |after| number(actor::stamp(&mut after[0], masks, w, h, n, a)));
+}
+
+/// A start: the limbs after it.
+pub fn start(b: &mut Bench, payload: &[u8], limbs: &[u8], table: u32, count: u32, command: u32, chore: u32, direction: u32) -> Vec<u8> {
+    let library = |p: &[*mut u8]| unsafe { kg_start(p[0], payload.len(), p[1], limbs.len(), table, count, command, chore, direction) };
+    let numbers = [table, count, command, chore, direction].map(i64::from);
+    let (_, _, mut after) = b.case("start", &numbers, &[("payload", payload), ("limbs", limbs)], library, |after| {
+        word(costume::start(payload, &mut after[1], table, count, command, chore, direction).map(usize::from))
+    });
+    after.pop().unwrap()
+}
+
+/// A tick: the limbs after it.
+pub fn tick(b: &mut Bench, payload: &[u8], limbs: &[u8], command: u32) -> Vec<u8> {
+    let library = |p: &[*mut u8]| unsafe { kg_tick(p[0], payload.len(), p[1], limbs.len(), command) as u64 };
+    let (_, _, mut after) = b.case("tick", &[command as i64], &[("payload", payload), ("limbs", limbs)], library, |after| {
+        number(costume::tick(payload, &mut after[1], command))
+    });
+    after.pop().unwrap()
+}
+
+pub fn limb_draws(b: &mut Bench, limbs: &[u8], limb: u32) {
+    let library = |p: &[*mut u8]| unsafe { kg_limb_draws(p[0], limbs.len(), limb) };
+    b.case("limb_draws", &[limb as i64], &[("limbs", limbs)], library, |_| {
+        word(costume::limb_draws(limbs, limb).map(|picture| picture.map_or(0, |picture| 256 + picture as usize)))
+    });
+}
+
+/// A written block, header included; nothing if refused.
+pub fn write_smap(b: &mut Bench, rows: &[u8], out: &[u8], w: u32, h: u32) -> Vec<u8> {
+    let library = |p: &[*mut u8]| unsafe { kg_write_smap(p[0], rows.len(), p[1], out.len(), w, h) };
+    let numbers = [w, h].map(i64::from);
+    let (_, answer, mut after) =
+        b.case("write_smap", &numbers, &[("rows", rows), ("out", out)], library, |after| word(write::smap(rows, &mut after[1], w, h)));
+    after[1].drain(..(answer >> 32) as usize).collect()
+}
+
+pub fn write_plane(b: &mut Bench, rows: &[u8], out: &[u8], w: u32, h: u32, k: u32) -> Vec<u8> {
+    let library = |p: &[*mut u8]| unsafe { kg_write_plane(p[0], rows.len(), p[1], out.len(), w, h, k) };
+    let numbers = [w, h, k].map(i64::from);
+    let (_, answer, mut after) =
+        b.case("write_plane", &numbers, &[("rows", rows), ("out", out)], library, |after| word(write::plane(rows, &mut after[1], w, h, k)));
+    after[1].drain(..(answer >> 32) as usize).collect()
+}
+
+/// Bare loads for the speed: library, then reference.
+pub fn bare_load(room: &[u8], session: &mut [u8], pixels: &mut [u8], masks: &mut [u8], library: bool) -> u32 {
+    if !library {
+        return loads::load(room, session, pixels, masks);
+    }
+    let (s, p, m) = (session.len(), pixels.len(), masks.len());
+    unsafe { kg_load(room.as_ptr(), room.len(), session.as_mut_ptr(), s, pixels.as_mut_ptr(), p, masks.as_mut_ptr(), m) }
+}

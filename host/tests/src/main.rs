@@ -1,0 +1,106 @@
+//! Differential tests: the library's C interface against the reference.
+//!
+//!     tests [SEEDS]          seeds 0 to SEEDS − 1, then the table
+//!     tests soak SECONDS     new seeds until the time is over
+//!     tests seed SEED        one seed again
+//!     tests room FILE        the calls on a room from a file
+//!     tests speed            library : reference for loads of 640 × 200 rooms
+
+mod actor_scenes;
+mod bench;
+mod calls;
+mod costume_scenes;
+mod damage;
+mod lent;
+mod rng;
+mod room_scenes;
+mod rooms;
+mod strips;
+mod tree;
+mod writer_scenes;
+
+use bench::Bench;
+use std::time::{Duration, Instant, SystemTime};
+
+/// About 60 seconds on one core.
+const SEEDS: u64 = 200_000;
+
+fn run(b: &mut Bench, seed: u64) {
+    let mut r = b.scene(seed);
+    let r = &mut r;
+    match seed % 32 {
+        0..=6 => room_scenes::good(b, r),
+        7..=12 => room_scenes::damaged(b, r),
+        13..=15 => room_scenes::order(b, r),
+        16 => room_scenes::bodies(b, r),
+        17 | 18 => room_scenes::flipped(b, r),
+        19 => room_scenes::arbitrary(b, r),
+        20 if r.once_in(8) => room_scenes::every_cut(b, r),
+        21 if r.once_in(40) => room_scenes::at_the_limit(b, r),
+        20 | 21 => room_scenes::damaged(b, r),
+        22 if r.once_in(4) => actor_scenes::every_point(b, r),
+        22 => actor_scenes::questions(b, r),
+        23 if r.once_in(4) => actor_scenes::every_offset(b, r),
+        23 | 24 => actor_scenes::stamps(b, r),
+        25 | 26 => costume_scenes::arbitrary(b, r),
+        27 => costume_scenes::playing(b, r),
+        28 | 29 => writer_scenes::pictures(b, r),
+        _ => writer_scenes::planes(b, r),
+    }
+}
+
+fn soak(b: &mut Bench, seconds: u64) {
+    let now = SystemTime::now().duration_since(SystemTime::UNIX_EPOCH).expect("a clock").as_secs();
+    let (begun, mut told) = (Instant::now(), Instant::now());
+    let mut seed = now << 24;
+    println!("first seed {seed}");
+    while begun.elapsed() < Duration::from_secs(seconds) {
+        run(b, seed);
+        seed += 1;
+        if told.elapsed() >= Duration::from_secs(20) {
+            println!("{:>6} s, {} cases", begun.elapsed().as_secs(), b.cases);
+            told = Instant::now();
+        }
+    }
+}
+
+/// Interleaved loads of a 640 × 200 room with four planes; the best time of each.
+fn speed(seed: u64) {
+    let plan = rooms::room_of(&mut rng::Rng::new(seed), 640, 200, 4);
+    let room = plan.root.write();
+    let (mut session, mut pixels, mut masks) = (vec![0; 450], vec![0; 640 * 200], vec![0; 4 * 80 * 200]);
+    let mut best = [f64::MAX; 2];
+    for round in 0..200 {
+        let begun = Instant::now();
+        let number = calls::bare_load(&room, &mut session, &mut pixels, &mut masks, round % 2 == 0);
+        assert_eq!(number, 0, "the room of the speed test");
+        best[round % 2] = best[round % 2].min(begun.elapsed().as_secs_f64() * 1e3);
+    }
+    let [library, reference] = best;
+    let ratio = reference / library;
+    println!("load of 640 x 200, {} bytes: library {library:.3} ms, reference {reference:.3} ms, 1 : {ratio:.2}", room.len());
+}
+
+fn main() {
+    let arguments: Vec<String> = std::env::args().skip(1).collect();
+    let number = |i: usize| arguments.get(i).and_then(|text| text.parse::<u64>().ok());
+    let b = &mut Bench::new();
+    let mut full = true;
+    match arguments.first().map(String::as_str) {
+        Some("speed") => return (1..=4).for_each(speed),
+        Some("room") => {
+            full = false;
+            room_scenes::given(b, &std::fs::read(arguments.get(1).expect("tests room FILE")).expect("a room's file"));
+        }
+        Some("soak") => soak(b, number(1).expect("tests soak SECONDS")),
+        Some("seed") => {
+            full = false;
+            run(b, number(1).expect("tests seed SEED"));
+        }
+        Some(_) => (0..number(0).expect("tests [SEEDS]")).for_each(|seed| run(b, seed)),
+        None => (0..SEEDS).for_each(|seed| run(b, seed)),
+    }
+    if !b.report(full) {
+        std::process::exit(1);
+    }
+}
