@@ -71,7 +71,7 @@ pub fn plan(session: &[u8], objects: &[u32], verdicts: &[u8], size: Size, step: 
 // A take-back: the shown list of all steps but the newest, or its refusal.
 pub fn plan_back(session: &[u8], objects: &[u32], verdicts: &[u8], size: Size) -> Shown
     requires { ⌜ (450 ≤ length (now session)) × (1032 ≤ length (now objects)) × (1290 ≤ length (now verdicts)) × Sizes size ⌝ }
-    ensures { λ r. ⌜ (planOf r ≡ plannedBack (tabled (now (objects .entry)) (now (verdicts .entry)) size) (now (session .entry))) × (r .n ≤ 64) × (r .refusal ≡ 0 → (0 < getD (now (session .entry)) 0 0) × All SmallEntry (entries r)) ⌝ }
+    ensures { λ r. ⌜ (planOf r ≡ plannedBack (tabled (now (objects .entry)) (now (verdicts .entry)) size) (now (session .entry))) × (r .n ≤ 64) × (r .refusal ≡ 0 → (0 < getD (now (session .entry)) 0 0) × All SmallEntry (entries r) × (getD (now (session .entry)) 0 0 ≤ 64) × (r .n < getD (now (session .entry)) 0 0)) ⌝ }
 {
     let s = settled(session, objects, verdicts, size);
     if s.refusal != 0 {

@@ -50,7 +50,7 @@ returns-3 c =
     let h = c .before .before .before .before .before .before .settled .ensures .2 (c .before .before .before .before .if1 .left) in
     let few = c .replayed .ensures .few in
     let ld = length-down (stepAt (A .session .now)) (c .before .before .count .result - 1) in
-    (back-yes (tabled (A .objects .now) (A .verdicts .now) (A .size)) (A .session .now) (c .before .before .before .before .before .before .settled .result) (c .before .before .before .before .before .before .settled .ensures .0) (c .before .before .before .before .if1 .left) (c .replayed .result) (c .before .before .count .result) (c .before .before .count .ensures .0) (c .before .if2 .left) (c .replayed .ensures), omega (arith, c .before .before .count .ensures .0), λ q. (omega (arith, c .before .if2 .left, c .before .before .count .ensures .0), back-small (A .objects .now) (A .verdicts .now) (A .size) (c .before .before .before .before .before .before .before .before .before .before .pre .3) (down (stepAt (A .session .now)) (c .before .before .count .result - 1)) (c .replayed .result) (c .replayed .ensures) q))
+    (back-yes (tabled (A .objects .now) (A .verdicts .now) (A .size)) (A .session .now) (c .before .before .before .before .before .before .settled .result) (c .before .before .before .before .before .before .settled .ensures .0) (c .before .before .before .before .if1 .left) (c .replayed .result) (c .before .before .count .result) (c .before .before .count .ensures .0) (c .before .if2 .left) (c .replayed .ensures), omega (arith, c .before .before .count .ensures .0), λ q. (omega (arith, c .before .if2 .left, c .before .before .count .ensures .0), back-small (A .objects .now) (A .verdicts .now) (A .size) (c .before .before .before .before .before .before .before .before .before .before .pre .3) (down (stepAt (A .session .now)) (c .before .before .count .result - 1)) (c .replayed .result) (c .replayed .ensures) q, omega (arith, c .before .before .count .ensures .0), omega (arith, c .before .if2 .left, c .before .before .count .ensures .0)))
 
 pub plan-back-spec : {M : Type 1} → statement M
 plan-back-spec =

@@ -1,0 +1,4 @@
+pub mod VerdictLaws
+pub mod FlatLaws
+pub mod StepLaws
+pub mod MakeLaws

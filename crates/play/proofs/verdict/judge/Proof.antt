@@ -1,0 +1,20 @@
+-- `play::verdict::judge` meets its contract. Assumes nothing.
+use Rattle.play.proofs.VerdictLaws.{judged-knows}
+use borrow.Author.Needs.{needs}
+use Rattle.play.proofs.verdict.judge.Statement.{statement}
+use Rattle.play.proofs.verdict.judge.Tie as tie
+
+judge-steps-requires : tie.Need-judge-steps-requires
+judge-steps-requires c κs = search needs
+
+judge-step-requires : tie.Need-judge-step-requires
+judge-step-requires c κs = search needs
+
+same-length : tie.Need-same-length
+same-length c = search needs
+
+returns : tie.Need-returns
+returns c = judged-knows _ (c .before .before .before .before .before .before .before .before .before .before .before .before .args .r) _ (c .before .before .before .before .before .before .before .before .before .before .before .before .pre .0 .1) _ _ (c .before .before .before .before .before .before .before .before .before .before .before .before .pre .0 .0) (c .before .before .judge-step .ensures _ (c .before .before .before .before .before .before .judge-steps .ensures))
+
+pub judge-spec : {M : Type 1} → statement M
+judge-spec = tie.close (tie.spec judge-steps-requires judge-step-requires same-length returns)

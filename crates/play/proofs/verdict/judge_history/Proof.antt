@@ -1,0 +1,17 @@
+-- `play::verdict::judge_history` meets its contract. Assumes nothing.
+use Rattle.play.proofs.VerdictLaws.{judged-knows}
+use borrow.Author.Needs.{needs}
+use Rattle.play.proofs.verdict.judge_history.Statement.{statement}
+use Rattle.play.proofs.verdict.judge_history.Tie as tie
+
+judge-steps-requires : tie.Need-judge-steps-requires
+judge-steps-requires c κs = search needs
+
+same-length : tie.Need-same-length
+same-length c = search needs
+
+returns : tie.Need-returns
+returns c = judged-knows _ (c .before .before .before .before .before .before .before .before .args .r) _ (c .before .before .before .before .before .before .before .before .pre .0 .1) _ _ (c .before .before .before .before .before .before .before .before .pre .0 .0) (c .before .before .judge-steps .ensures)
+
+pub judge-history-spec : {M : Type 1} → statement M
+judge-history-spec = tie.close (tie.spec judge-steps-requires same-length returns)

@@ -1,0 +1,42 @@
+-- `play::verdict::judge_step` meets its contract. Assumes nothing.
+use Rattle.play.proofs.VerdictLaws.{judged-step, judged-hidden}
+use borrow.Author.Needs.{needs}
+use Rattle.play.proofs.verdict.judge_step.Statement.{statement}
+use Rattle.play.proofs.verdict.judge_step.Tie as tie
+
+enum-known-step : tie.Need-enum-known-step
+enum-known-step c = search needs
+
+wide-requires : tie.Need-wide-requires
+wide-requires c κs = search needs
+
+wide-requires-2 : tie.Need-wide-requires-2
+wide-requires-2 c κs = search needs
+
+judge-image-requires : tie.Need-judge-image-requires
+judge-image-requires c κs = search needs
+
+enum-told : tie.Need-enum-told
+enum-told c = search needs
+
+same-length : tie.Need-same-length
+same-length c = search needs
+
+returns : tie.Need-returns
+returns c = judged-step _ (c .before .before .before .before .before .before .before .before .before .before .before .before .args .r) _ _ _ _ _ _ _ _ (c .before .before .before .before .before .before .before .step .given .1) (c .before .before .before .before .before .wide .ensures .0) (c .before .before .before .before .wide2 .ensures .0) (c .before .before .judge-image .ensures)
+
+returns-2 : tie.Need-returns-2
+returns-2 c = λ h j. rw (c .enum-told .given .1) (judged-hidden _ (c .before .before .before .before .before .args .r) _ h _ j)
+
+pub judge-step-spec : {M : Type 1} → statement M
+judge-step-spec =
+    tie.close
+    (tie.spec
+    enum-known-step
+    wide-requires
+    wide-requires-2
+    judge-image-requires
+    enum-told
+    same-length
+    returns
+    returns-2)

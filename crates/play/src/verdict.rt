@@ -1,0 +1,136 @@
+// The verdicts of the images that a history and a step draw: 11 where an object has no image of the state, else 0 or the image's own
+// refusal. Each image is tested once, however often it is drawn.
+ghost use mathlib.Core.Path.{_≡_};
+ghost use mathlib.Core.List.{List, _∷_};
+ghost use Prim.Native.Nat.{_≤_};
+ghost use lib.ListN.{length};
+ghost use Rattle.image.specs.Image.{objectCount};
+ghost use Rattle.repaint.specs.Decoded.{decoded};
+ghost use Rattle.repaint.specs.Ready.{Ready};
+ghost use Rattle.scene.specs.declared.Place as place;
+ghost use Rattle.scene.specs.declared.Step as steps;
+ghost use Rattle.scene.specs.declared.Step.the-variants as variants;
+ghost use Rattle.session.specs.Bytes.{readable};
+ghost use Rattle.session.specs.Tables.{Knows};
+ghost use Rattle.play.specs.Size.{sizeOf};
+ghost use Rattle.play.specs.Verdict.{Right, Judged};
+use block::Found;
+use image::state::image_drawable;
+use image::state::state_block;
+use image::test::test_image;
+use plane::fill;
+use room::Room;
+use scene::Step;
+use session::bytes::count;
+use session::bytes::step_at;
+use session::tables::wide;
+use table::Test;
+
+// What a cell holds before its image is judged: no verdict is 255.
+const UNKNOWN: u8 = 255;
+
+// The verdict of object o in state s. An image larger than the room is not tested: a draw of it is refused with 12 before.
+fn verdict_of(room: &[u8], r: Room, table: &[u32], o: usize, s: usize) -> u8
+    requires { ⌜ Ready (now room) r (now table) × (r .objects ≡ objectCount (now room)) ⌝ }
+    requires { ⌜ (1 ≤ o) × (o ≤ r .objects) × (s ≤ 9) ⌝ }
+    ensures { λ v. ⌜ Right (now (room .entry)) r o s v ⌝ }
+{
+    if !image_drawable(room, table, r.objects, o, s) {
+        return 11;
+    }
+    let width = wide(table[8 * o + 3]);
+    let height = wide(table[8 * o + 4]);
+    if r.width < width {
+        return 0;
+    }
+    if r.height < height {
+        return 0;
+    }
+    let Found::At(b, z) = state_block(room, table, o, s) else {
+        return 11;
+    };
+    match test_image(room, b + 8, z, width / 8, height, r.planes) {
+        Test::Passed => 0,
+        Test::Refused(number) => number,
+    }
+}
+
+// The verdict of object o in state s is put into its cell, if it has one and is not judged yet.
+fn judge_image(room: &[u8], r: Room, table: &[u32], o: usize, s: usize, verdicts: &mut [u8])
+    requires { ⌜ Ready (now room) r (now table) × (r .objects ≡ objectCount (now room)) ⌝ }
+    requires { ⌜ 1290 ≤ length (now verdicts) ⌝ }
+    ensures { λ _. ⌜ ((p : place.Place) (h : List steps.Step) → Judged (now (room .entry)) r (now (verdicts .entry)) h → Judged (now (room .entry)) r (now (verdicts .exit)) (variants.Draw o s p ∷ h)) ⌝ }
+{
+    if o == 0 {
+        return;
+    }
+    if r.objects < o {
+        return;
+    }
+    if s == 0 {
+        return;
+    }
+    if 9 < s {
+        return;
+    }
+    let at = 10 * o + s;
+    if verdicts[at] != UNKNOWN {
+        return;
+    }
+    let v = verdict_of(room, r, table, o, s);
+    verdicts[at] = v;
+}
+
+// The verdict of the image that a step draws.
+fn judge_step(room: &[u8], r: Room, table: &[u32], step: Step, verdicts: &mut [u8])
+    requires { ⌜ Ready (now room) r (now table) × (r .objects ≡ objectCount (now room)) ⌝ }
+    requires { ⌜ 1290 ≤ length (now verdicts) ⌝ }
+    ensures { λ _. ⌜ ((h : List steps.Step) → Judged (now (room .entry)) r (now (verdicts .entry)) h → Judged (now (room .entry)) r (now (verdicts .exit)) (step ∷ h)) ⌝ }
+{
+    match step {
+        Step::Draw(object, state, _) => {
+            let o = wide(object);
+            let s = wide(state);
+            judge_image(room, r, table, o, s, verdicts);
+        }
+        Step::Hide(_) => {}
+    }
+}
+
+// The verdicts of the images that the session's history draws, in a table that holds no others.
+fn judge_steps(room: &[u8], r: Room, table: &[u32], session: &[u8], verdicts: &mut [u8])
+    requires { ⌜ Ready (now room) r (now table) × (r .objects ≡ objectCount (now room)) ⌝ }
+    requires { ⌜ (450 ≤ length (now session)) × (1290 ≤ length (now verdicts)) ⌝ }
+    ensures { λ _. ⌜ Judged (now (room .entry)) r (now (verdicts .exit)) (readable (now (session .entry))) ⌝ }
+{
+    fill(verdicts, 0, 1290, UNKNOWN);
+    let n = count(session[0]);
+    if 64 < n {
+        return;
+    }
+    let mut i: usize = 0;
+    while i < n {
+        let step = step_at(session, i);
+        judge_step(room, r, table, step, verdicts);
+        i += 1;
+    }
+}
+
+// The verdicts of the images that the session's history draws.
+pub fn judge_history(room: &[u8], r: Room, table: &[u32], session: &[u8], verdicts: &mut [u8])
+    requires { ⌜ Ready (now room) r (now table) × (r .objects ≡ objectCount (now room)) ⌝ }
+    requires { ⌜ (450 ≤ length (now session)) × (1290 ≤ length (now verdicts)) ⌝ }
+    ensures { λ _. ⌜ Knows (decoded (now (room .entry)) r) (now (table .entry)) (now (verdicts .exit)) (sizeOf r) (readable (now (session .entry))) ⌝ }
+{
+    judge_steps(room, r, table, session, verdicts);
+}
+
+// The verdicts of the images that the session's history and the step draw.
+pub fn judge(room: &[u8], r: Room, table: &[u32], session: &[u8], step: Step, verdicts: &mut [u8])
+    requires { ⌜ Ready (now room) r (now table) × (r .objects ≡ objectCount (now room)) ⌝ }
+    requires { ⌜ (450 ≤ length (now session)) × (1290 ≤ length (now verdicts)) ⌝ }
+    ensures { λ _. ⌜ Knows (decoded (now (room .entry)) r) (now (table .entry)) (now (verdicts .exit)) (sizeOf r) (step ∷ readable (now (session .entry))) ⌝ }
+{
+    judge_steps(room, r, table, session, verdicts);
+    judge_step(room, r, table, step, verdicts);
+}
