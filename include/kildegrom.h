@@ -52,6 +52,18 @@ uint32_t kg_record(const uint8_t *room, size_t room_size, uint8_t *record, size_
 uint32_t kg_load(const uint8_t *room, size_t room_size, uint8_t *session, size_t session_size, uint8_t *pixels, size_t pixels_size,
                  uint8_t *masks, size_t masks_size);
 
+/* Draws an object (counted from 1) in a state where it last was, or at strip position (a, b), pixel (8a, 8b); hides it; takes the newest
+ * step back. Room, session and surfaces are those of the load, written by nobody else meanwhile. Only the strips that the step touches are
+ * rebuilt. Refusals 1 to 8 for the room, then 9 to 13 as the call has them, then 2 and 5 to 8 for the object's image. */
+uint32_t kg_draw_last(const uint8_t *room, size_t room_size, uint8_t *session, size_t session_size, uint8_t *pixels, size_t pixels_size,
+                      uint8_t *masks, size_t masks_size, uint32_t object, uint32_t state);
+uint32_t kg_draw_at(const uint8_t *room, size_t room_size, uint8_t *session, size_t session_size, uint8_t *pixels, size_t pixels_size,
+                    uint8_t *masks, size_t masks_size, uint32_t object, uint32_t state, uint32_t a, uint32_t b);
+uint32_t kg_hide(const uint8_t *room, size_t room_size, uint8_t *session, size_t session_size, uint8_t *pixels, size_t pixels_size,
+                 uint8_t *masks, size_t masks_size, uint32_t object);
+uint32_t kg_take_back(const uint8_t *room, size_t room_size, uint8_t *session, size_t session_size, uint8_t *pixels, size_t pixels_size,
+                      uint8_t *masks, size_t masks_size);
+
 /* An object's header, objects counted from 1: CDHD's 13 bytes, then three zeros. Refusals 1 to 8, 11. */
 uint32_t kg_header(const uint8_t *room, size_t room_size, uint8_t *header, size_t header_size, uint32_t object);
 

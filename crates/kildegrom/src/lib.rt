@@ -8,7 +8,11 @@ ghost use Rattle.blocks.specs.Call.{smapOutcome, planeOutcome, answerOf, target
 ghost use Rattle.costume.specs.Limb.{drawnOf};
 ghost use Rattle.costume.specs.Start.{startedOf, startBytes};
 ghost use Rattle.costume.specs.Tick.{tickNumber, tickBytes};
+ghost use Rattle.scene.specs.Session.{make, takeBack};
+ghost use Rattle.scene.specs.declared.Place.the-variants as place;
+ghost use Rattle.scene.specs.declared.Step.the-variants as step;
 ghost use Rattle.kildegrom.specs.Word.{hiddenWord, startedWord, drawnWord, wroteWord};
+ghost use Rattle.play.specs.Calls.{callNumber, callSession, callPixels, callMasks};
 ghost use Rattle.room.specs.Test.{numberOf};
 ghost use Rattle.room.specs.Record.{recordTest, recordAfter};
 ghost use Rattle.room.specs.Object.{placeNumber, headerCall, headerAfter};
@@ -18,6 +22,8 @@ use actor::Answer;
 use blocks::Wrote;
 use costume::Drawn;
 use costume::Started;
+use scene::Place;
+use scene::Step;
 
 // The room's record.
 #[no_mangle]
@@ -42,6 +48,89 @@ pub extern "C" fn kg_load(
     ensures { λ _. ⌜ now (masks .exit) ≡ masksAfter (now (room .entry)) (loadTest (now (room .entry)) (now (session .entry)) (now (pixels .entry)) (now (masks .entry))) (now (masks .entry)) ⌝ }
 {
     load::load(room, session, pixels, masks)
+}
+
+// Draws an object in a state where it last was.
+#[no_mangle]
+pub extern "C" fn kg_draw_last(
+    room: &[u8],
+    session: &mut [u8],
+    pixels: &mut [u8],
+    masks: &mut [u8],
+    object: u32,
+    state: u32,
+) -> u32
+    ensures { λ n. ⌜ n ≡ callNumber (now (room .entry)) (now (session .entry)) (now (pixels .entry)) (now (masks .entry)) (make (step.Draw object state place.Last)) (loadTest (now (room .entry)) (now (session .entry)) (now (pixels .entry)) (now (masks .entry))) ⌝ }
+    ensures { λ _. ⌜ now (session .exit) ≡ callSession (now (room .entry)) (now (session .entry)) (make (step.Draw object state place.Last)) (loadTest (now (room .entry)) (now (session .entry)) (now (pixels .entry)) (now (masks .entry))) ⌝ }
+    ensures { λ _. ⌜ now (pixels .exit) ≡ callPixels (now (room .entry)) (now (session .entry)) (now (pixels .entry)) (now (masks .entry)) (make (step.Draw object state place.Last)) (loadTest (now (room .entry)) (now (session .entry)) (now (pixels .entry)) (now (masks .entry))) ⌝ }
+    ensures { λ _. ⌜ now (masks .exit) ≡ callMasks (now (room .entry)) (now (session .entry)) (now (pixels .entry)) (now (masks .entry)) (make (step.Draw object state place.Last)) (loadTest (now (room .entry)) (now (session .entry)) (now (pixels .entry)) (now (masks .entry))) ⌝ }
+{
+    play::calls::act(
+        room,
+        session,
+        pixels,
+        masks,
+        Step::Draw(object, state, Place::Last),
+    )
+}
+
+// Draws an object in a state at strip position (a, b), which is pixel (8a, 8b).
+#[no_mangle]
+pub extern "C" fn kg_draw_at(
+    room: &[u8],
+    session: &mut [u8],
+    pixels: &mut [u8],
+    masks: &mut [u8],
+    object: u32,
+    state: u32,
+    a: u32,
+    b: u32,
+) -> u32
+    ensures { λ n. ⌜ n ≡ callNumber (now (room .entry)) (now (session .entry)) (now (pixels .entry)) (now (masks .entry)) (make (step.Draw object state (place.Strip a b))) (loadTest (now (room .entry)) (now (session .entry)) (now (pixels .entry)) (now (masks .entry))) ⌝ }
+    ensures { λ _. ⌜ now (session .exit) ≡ callSession (now (room .entry)) (now (session .entry)) (make (step.Draw object state (place.Strip a b))) (loadTest (now (room .entry)) (now (session .entry)) (now (pixels .entry)) (now (masks .entry))) ⌝ }
+    ensures { λ _. ⌜ now (pixels .exit) ≡ callPixels (now (room .entry)) (now (session .entry)) (now (pixels .entry)) (now (masks .entry)) (make (step.Draw object state (place.Strip a b))) (loadTest (now (room .entry)) (now (session .entry)) (now (pixels .entry)) (now (masks .entry))) ⌝ }
+    ensures { λ _. ⌜ now (masks .exit) ≡ callMasks (now (room .entry)) (now (session .entry)) (now (pixels .entry)) (now (masks .entry)) (make (step.Draw object state (place.Strip a b))) (loadTest (now (room .entry)) (now (session .entry)) (now (pixels .entry)) (now (masks .entry))) ⌝ }
+{
+    play::calls::act(
+        room,
+        session,
+        pixels,
+        masks,
+        Step::Draw(object, state, Place::Strip(a, b)),
+    )
+}
+
+// Hides an object.
+#[no_mangle]
+pub extern "C" fn kg_hide(
+    room: &[u8],
+    session: &mut [u8],
+    pixels: &mut [u8],
+    masks: &mut [u8],
+    object: u32,
+) -> u32
+    ensures { λ n. ⌜ n ≡ callNumber (now (room .entry)) (now (session .entry)) (now (pixels .entry)) (now (masks .entry)) (make (step.Hide object)) (loadTest (now (room .entry)) (now (session .entry)) (now (pixels .entry)) (now (masks .entry))) ⌝ }
+    ensures { λ _. ⌜ now (session .exit) ≡ callSession (now (room .entry)) (now (session .entry)) (make (step.Hide object)) (loadTest (now (room .entry)) (now (session .entry)) (now (pixels .entry)) (now (masks .entry))) ⌝ }
+    ensures { λ _. ⌜ now (pixels .exit) ≡ callPixels (now (room .entry)) (now (session .entry)) (now (pixels .entry)) (now (masks .entry)) (make (step.Hide object)) (loadTest (now (room .entry)) (now (session .entry)) (now (pixels .entry)) (now (masks .entry))) ⌝ }
+    ensures { λ _. ⌜ now (masks .exit) ≡ callMasks (now (room .entry)) (now (session .entry)) (now (pixels .entry)) (now (masks .entry)) (make (step.Hide object)) (loadTest (now (room .entry)) (now (session .entry)) (now (pixels .entry)) (now (masks .entry))) ⌝ }
+{
+    play::calls::act(room, session, pixels, masks, Step::Hide(object))
+}
+
+// Takes the newest step back.
+#[no_mangle]
+pub extern "C" fn kg_take_back(
+    room: &[u8],
+    session: &mut [u8],
+    pixels: &mut [u8],
+    masks: &mut [u8],
+) -> u32
+    ensures { λ n. ⌜ n ≡ callNumber (now (room .entry)) (now (session .entry)) (now (pixels .entry)) (now (masks .entry)) takeBack (loadTest (now (room .entry)) (now (session .entry)) (now (pixels .entry)) (now (masks .entry))) ⌝ }
+    ensures { λ _. ⌜ now (session .exit) ≡ callSession (now (room .entry)) (now (session .entry)) takeBack (loadTest (now (room .entry)) (now (session .entry)) (now (pixels .entry)) (now (masks .entry))) ⌝ }
+    ensures { λ _. ⌜ now (pixels .exit) ≡ callPixels (now (room .entry)) (now (session .entry)) (now (pixels .entry)) (now (masks .entry)) takeBack (loadTest (now (room .entry)) (now (session .entry)) (now (pixels .entry)) (now (masks .entry))) ⌝ }
+    ensures { λ _. ⌜ now (masks .exit) ≡ callMasks (now (room .entry)) (now (session .entry)) (now (pixels .entry)) (now (masks .entry)) takeBack (loadTest (now (room .entry)) (now (session .entry)) (now (pixels .entry)) (now (masks .entry))) ⌝ }
+{
+    play::calls::take_back(room, session, pixels, masks)
 }
 
 // An object's header.

@@ -2,3 +2,6 @@ pub mod VerdictLaws
 pub mod FlatLaws
 pub mod StepLaws
 pub mod MakeLaws
+pub mod UndoLaws
+pub mod LoadedLaws
+pub mod Demand3

@@ -1,3 +1,4 @@
 pub mod Size
 pub mod Verdict
 pub mod Calls
+pub mod Bytes

@@ -1,5 +1,7 @@
 // Draws and hides on a room's bytes, a session and lent surfaces (document 01, "Sessions"), for a room that passes its test: the images that
 // the history and the step draw are judged once each, the step is planned, and only then anything is written.
+pub mod calls;
 pub mod flat;
 pub mod step;
+pub mod undo;
 pub mod verdict;

@@ -1,0 +1,42 @@
+-- A list of calls on lent bytes, from a load on (demand 3). Lists of calls stand newest first.
+use Prim.Native.Nat.{ℕ}
+use mathlib.Core.List.{List, [], _∷_}
+use Rattle.room.specs.declared.Tested.{Tested}
+use Rattle.load.specs.Load.{loadTest, sessionAfter, pixelsAfter, masksAfter}
+use Rattle.scene.specs.Session.{Call}
+use Rattle.play.specs.Calls.{callNumber, callSession, callPixels, callMasks}
+
+-- the lent bytes: a session, pixels and masks
+pub record Lent : Type 0 where
+  pub session : List ℕ
+  pub pixels : List ℕ
+  pub masks : List ℕ
+
+-- the room's test with them
+abbrev pub testOf : List ℕ → Lent → Tested
+testOf s b = loadTest s (b .session) (b .pixels) (b .masks)
+
+-- what a load leaves, and what a call leaves, as their contracts say
+abbrev pub afterLoad : List ℕ → Lent → Lent
+afterLoad s b =
+    record {
+      session = sessionAfter (testOf s b) (b .session);
+      pixels = pixelsAfter s (testOf s b) (b .pixels);
+      masks = masksAfter s (testOf s b) (b .masks);
+    }
+
+abbrev pub afterCall : List ℕ → Lent → Call → Lent
+afterCall s b c =
+    record {
+      session = callSession s (b .session) c (testOf s b);
+      pixels = callPixels s (b .session) (b .pixels) (b .masks) c (testOf s b);
+      masks = callMasks s (b .session) (b .pixels) (b .masks) c (testOf s b);
+    }
+
+abbrev pub numberOf : List ℕ → Lent → Call → ℕ
+numberOf s b c = callNumber s (b .session) (b .pixels) (b .masks) c (testOf s b)
+
+-- the bytes after a load and a list of calls
+unfoldable pub bytesAfter : List ℕ → Lent → List Call → Lent
+bytesAfter s b [] = afterLoad s b
+bytesAfter s b (c ∷ cs) = afterCall s (bytesAfter s b cs) c
