@@ -156,6 +156,38 @@ static void load_and_write(struct lent room)
     give_back(masks);
 }
 
+/* Draws, a hide and their take-backs: what they leave is what they found. */
+static void steps(struct lent room)
+{
+    struct lent session = lend(KG_SESSION_SIZE, 0), pixels = lend(WIDTH * HEIGHT, 1), masks = lend(STRIPS * HEIGHT, 2);
+    struct lent bare = lend(WIDTH * HEIGHT, 3), bare_masks = lend(STRIPS * HEIGHT, 4);
+    int taken;
+#define BUFFERS room.at, room.size, session.at, session.size, pixels.at, pixels.size, masks.at, masks.size
+    expect(kg_load(BUFFERS) == KG_ACCEPTED, "the load before the steps");
+    memcpy(bare.at, pixels.at, pixels.size);
+    memcpy(bare_masks.at, masks.at, masks.size);
+    expect(kg_take_back(BUFFERS) == KG_NOTHING_TO_TAKE_BACK, "a take-back without a step");
+    expect(kg_hide(BUFFERS, 1) == KG_NO_SUCH_OBJECT, "a hide of an object that isn't shown");
+    expect(kg_draw_last(BUFFERS, 3, 1) == KG_NO_SUCH_OBJECT && kg_draw_last(BUFFERS, 1, 9) == KG_NO_SUCH_OBJECT, "no such image");
+    expect(kg_draw_at(BUFFERS, 1, 1, 255, 0) == KG_PLACE_NOT_ALLOWED, "a place outside the room");
+    expect(all(session.at, session.size, 0) && memcmp(pixels.at, bare.at, bare.size) == 0, "refused steps change nothing");
+    expect(kg_draw_last(BUFFERS, 1, 1) == KG_ACCEPTED && session.at[0] == 1, "a draw");
+    expect(memcmp(pixels.at, bare.at, bare.size) != 0, "the drawn pixels");
+    expect(kg_draw_at(BUFFERS, 2, 2, 0, 0) == KG_ACCEPTED && kg_hide(BUFFERS, 1) == KG_ACCEPTED && session.at[0] == 3, "a draw elsewhere and a hide");
+    for (taken = 0; taken < 3; taken++)
+        expect(kg_take_back(BUFFERS) == KG_ACCEPTED, "a take-back");
+    expect(session.at[0] == 0 && session.at[1] == 0, "the session after the take-backs");
+    expect(memcmp(pixels.at, bare.at, bare.size) == 0 && memcmp(masks.at, bare_masks.at, bare_masks.size) == 0, "the surfaces after the take-backs");
+    session.at[0] = 1;
+    expect(kg_draw_last(BUFFERS, 1, 1) == KG_OTHER_SESSION, "a session that the room doesn't give");
+#undef BUFFERS
+    give_back(session);
+    give_back(pixels);
+    give_back(masks);
+    give_back(bare);
+    give_back(bare_masks);
+}
+
 /* One record for limb 0: the window of two bytes from stream index 0; the stream is payload bytes 8 and 9. */
 static void costume(void)
 {
@@ -179,6 +211,7 @@ int main(int argc, char **argv)
     room = read_file(argv[1]);
     record_and_objects(room);
     load_and_write(room);
+    steps(room);
     costume();
     give_back(room);
     printf("calls: %d checks passed\n", checks);

@@ -1,4 +1,4 @@
-// Draws and hides on a room's bytes, a session and lent surfaces (document 01, "Sessions"), for a room that passes its test: the images that
+// Draws, hides and take-backs on a room's bytes, a session and lent surfaces (document 01, "Sessions"): the room is tested, the images that
 // the history and the step draw are judged once each, the step is planned, and only then anything is written.
 pub mod calls;
 pub mod flat;
