@@ -188,6 +188,48 @@ static void steps(struct lent room)
     give_back(bare_masks);
 }
 
+/* A fixed list of 2,000 calls: each accepted take-back leaves the surfaces as they stood before its step, each refusal leaves all as it is. */
+static void list_of_steps(struct lent room)
+{
+    struct lent session = lend(KG_SESSION_SIZE, 0), pixels = lend(WIDTH * HEIGHT, 1), masks = lend(STRIPS * HEIGHT, 2);
+    struct lent earlier = lend(65 * WIDTH * HEIGHT, 3), earlier_masks = lend(65 * STRIPS * HEIGHT, 4);
+    uint32_t seed = 1, number, pick;
+    int call, depth = 0, deepest = 0;
+#define BUFFERS room.at, room.size, session.at, session.size, pixels.at, pixels.size, masks.at, masks.size
+    expect(kg_load(BUFFERS) == KG_ACCEPTED, "the load before the list of steps");
+    for (call = 0; call < 2000; call++) {
+        int before = session.at[0], back;
+        memcpy(earlier.at + depth * pixels.size, pixels.at, pixels.size);
+        memcpy(earlier_masks.at + depth * masks.size, masks.at, masks.size);
+        seed = seed * 1664525u + 1013904223u;
+        pick = seed >> 16;
+        back = pick % 8 == 0;
+        if (back)
+            number = kg_take_back(BUFFERS);
+        else if (pick % 8 == 1)
+            number = kg_hide(BUFFERS, pick / 8 % 4);
+        else if (pick % 8 < 5)
+            number = kg_draw_last(BUFFERS, pick / 8 % 4, pick / 32 % 3);
+        else
+            number = kg_draw_at(BUFFERS, pick / 8 % 4, pick / 32 % 3, pick / 128 % 42, pick / 64 % 20);
+        depth += number != KG_ACCEPTED ? 0 : back ? -1 : 1;
+        deepest = depth > deepest ? depth : deepest;
+        expect(session.at[0] == depth && (number == KG_ACCEPTED || before == depth), "the steps in the history");
+        if (number != KG_ACCEPTED || back) {
+            expect(memcmp(pixels.at, earlier.at + depth * pixels.size, pixels.size) == 0, "the pixels of an earlier state");
+            expect(memcmp(masks.at, earlier_masks.at + depth * masks.size, masks.size) == 0, "the masks of an earlier state");
+        }
+        expect(number != KG_HISTORY_FULL || depth == 64, "a history of 64 steps");
+    }
+    expect(deepest == 64, "a full history was reached");
+#undef BUFFERS
+    give_back(session);
+    give_back(pixels);
+    give_back(masks);
+    give_back(earlier);
+    give_back(earlier_masks);
+}
+
 /* One record for limb 0: the window of two bytes from stream index 0; the stream is payload bytes 8 and 9. */
 static void costume(void)
 {
@@ -212,6 +254,7 @@ int main(int argc, char **argv)
     record_and_objects(room);
     load_and_write(room);
     steps(room);
+    list_of_steps(room);
     costume();
     give_back(room);
     printf("calls: %d checks passed\n", checks);
