@@ -156,13 +156,15 @@ static void load_and_write(struct lent room)
     give_back(masks);
 }
 
+/* The lent buffers of a session, in the order of every call. */
+#define BUFFERS room.at, room.size, session.at, session.size, pixels.at, pixels.size, masks.at, masks.size
+
 /* Draws, a hide and their take-backs: what they leave is what they found. */
 static void steps(struct lent room)
 {
     struct lent session = lend(KG_SESSION_SIZE, 0), pixels = lend(WIDTH * HEIGHT, 1), masks = lend(STRIPS * HEIGHT, 2);
     struct lent bare = lend(WIDTH * HEIGHT, 3), bare_masks = lend(STRIPS * HEIGHT, 4);
     int taken;
-#define BUFFERS room.at, room.size, session.at, session.size, pixels.at, pixels.size, masks.at, masks.size
     expect(kg_load(BUFFERS) == KG_ACCEPTED, "the load before the steps");
     memcpy(bare.at, pixels.at, pixels.size);
     memcpy(bare_masks.at, masks.at, masks.size);
@@ -180,12 +182,24 @@ static void steps(struct lent room)
     expect(memcmp(pixels.at, bare.at, bare.size) == 0 && memcmp(masks.at, bare_masks.at, bare_masks.size) == 0, "the surfaces after the take-backs");
     session.at[0] = 1;
     expect(kg_draw_last(BUFFERS, 1, 1) == KG_OTHER_SESSION, "a session that the room doesn't give");
-#undef BUFFERS
     give_back(session);
     give_back(pixels);
     give_back(masks);
     give_back(bare);
     give_back(bare_masks);
+}
+
+/* One call out of the four, as the number picks it: a take-back where it is a multiple of 8. */
+static uint32_t call_picked(struct lent room, struct lent session, struct lent pixels, struct lent masks, uint32_t pick)
+{
+    uint32_t object = pick / 8 % 4, state = pick / 32 % 3;
+    if (pick % 8 == 0)
+        return kg_take_back(BUFFERS);
+    if (pick % 8 == 1)
+        return kg_hide(BUFFERS, object);
+    if (pick % 8 < 5)
+        return kg_draw_last(BUFFERS, object, state);
+    return kg_draw_at(BUFFERS, object, state, pick / 128 % 42, pick / 64 % 20);
 }
 
 /* A fixed list of 2,000 calls: each accepted take-back leaves the surfaces as they stood before its step, each refusal leaves all as it is. */
@@ -195,7 +209,6 @@ static void list_of_steps(struct lent room)
     struct lent earlier = lend(65 * WIDTH * HEIGHT, 3), earlier_masks = lend(65 * STRIPS * HEIGHT, 4);
     uint32_t seed = 1, number, pick;
     int call, depth = 0, deepest = 0;
-#define BUFFERS room.at, room.size, session.at, session.size, pixels.at, pixels.size, masks.at, masks.size
     expect(kg_load(BUFFERS) == KG_ACCEPTED, "the load before the list of steps");
     for (call = 0; call < 2000; call++) {
         int before = session.at[0], back;
@@ -204,14 +217,7 @@ static void list_of_steps(struct lent room)
         seed = seed * 1664525u + 1013904223u;
         pick = seed >> 16;
         back = pick % 8 == 0;
-        if (back)
-            number = kg_take_back(BUFFERS);
-        else if (pick % 8 == 1)
-            number = kg_hide(BUFFERS, pick / 8 % 4);
-        else if (pick % 8 < 5)
-            number = kg_draw_last(BUFFERS, pick / 8 % 4, pick / 32 % 3);
-        else
-            number = kg_draw_at(BUFFERS, pick / 8 % 4, pick / 32 % 3, pick / 128 % 42, pick / 64 % 20);
+        number = call_picked(room, session, pixels, masks, pick);
         depth += number != KG_ACCEPTED ? 0 : back ? -1 : 1;
         deepest = depth > deepest ? depth : deepest;
         expect(session.at[0] == depth && (number == KG_ACCEPTED || before == depth), "the steps in the history");
@@ -222,7 +228,6 @@ static void list_of_steps(struct lent room)
         expect(number != KG_HISTORY_FULL || depth == 64, "a history of 64 steps");
     }
     expect(deepest == 64, "a full history was reached");
-#undef BUFFERS
     give_back(session);
     give_back(pixels);
     give_back(masks);
