@@ -64,6 +64,12 @@ uint32_t kg_hide(const uint8_t *room, size_t room_size, uint8_t *session, size_t
 uint32_t kg_take_back(const uint8_t *room, size_t room_size, uint8_t *session, size_t session_size, uint8_t *pixels, size_t pixels_size,
                       uint8_t *masks, size_t masks_size);
 
+/* The object under the point (x, y): the lowest-numbered one whose box holds the point, whose byte in `flags` (a byte for each object,
+ * object 1 first) is 0 and whose containers are all in the state that their contents ask for. The value is its number, 0 for none.
+ * Refusals 1 to 8, 9, 14. */
+uint64_t kg_object_at(const uint8_t *room, size_t room_size, const uint8_t *session, size_t session_size, const uint8_t *flags,
+                      size_t flags_size, uint32_t x, uint32_t y);
+
 /* An object's header, objects counted from 1: CDHD's 13 bytes, then three zeros. Refusals 1 to 8, 11. */
 uint32_t kg_header(const uint8_t *room, size_t room_size, uint8_t *header, size_t header_size, uint32_t object);
 

@@ -16,8 +16,9 @@ use Rattle.block.specs.Tree.{tagged, findTag, nthTag}
 use Rattle.block.specs.declared.Found.{Found}
 use Rattle.block.specs.declared.Found.the-variants.{At, Missing}
 use Rattle.block.proofs.Laws.{and-false}
+use Rattle.room.specs.Object.{objectBlock}
 use Rattle.image.specs.Image.{objectCount, objectId, idAt, cdhdOf, imhdOf, hasId, headerHas, firstOf, imageBlock, homeX, homeY, imageWidth, imageHeight, imageCount}
-use Rattle.image.specs.Gathered.{startOf, endOf, rowFrom, rowWith, HasRow, Gathered, RowPut, Listed, RowOffered, Offered, Paired}
+use Rattle.image.specs.Gathered.{startOf, endOf, rowFrom, rowWith, HasRow, Gathered, RowPut, Filled, Listed, RowOffered, Offered, Paired}
 use Rattle.image.proofs.WalkLaws.{walk-found, walk-none}
 use Rattle.image.proofs.ImageLaws.{object-nth, image-of}
 
@@ -37,13 +38,13 @@ drop-none (x ∷ l) zero h le = absurd (let e : _≡_ {A = ℕ} 0 1 = cc in omeg
 drop-none (x ∷ l) (suc n) h le = ap suc (drop-none l n h (omega arith))
 
 -- ---- the objects
-module _ (s t₀ : List ℕ) where
-  -- the first n objects are listed, and the others' blocks stand from `at` on
+module _ (s : List ℕ) (row : Found → List ℕ) (t₀ : List ℕ) where
+  -- the first n objects' rows are put, and the others' blocks stand from `at` on
   pub record Listing (t : List ℕ) (at n : ℕ) : Type 0 where
     pub same : length t ≡ length t₀
     pub few : n ≤ objectCount s
     pub rest : tagged tag-OBCD s at (length s) ≡ drop n (tagged tag-OBCD s 8 (length s))
-    pub rows : (o : ℕ) → 1 ≤ o → o ≤ n → HasRow s t o (objectId s o) Missing
+    pub rows : (o : ℕ) → 1 ≤ o → o ≤ n → (c : ℕ) → c < 8 → getD t (8 * o + c) 0 ≡ getD (row (objectBlock s o)) c 0
 
   pub list-none : Listing t₀ 8 0
   list-none = record { same = refl; few = omega arith; rest = refl; rows = λ o one h. absurd (omega arith) }
@@ -55,25 +56,32 @@ module _ (s t₀ : List ℕ) where
     pub list-one : n < objectCount s
     list-one = first .2
 
-    id-here : idAt s (cdhdOf s (At b z)) ≡ objectId s (n + 1)
-    unfolding objectId
-    id-here = rw (object-nth s n, ← first .0)
+    block-here : At b z ≡ objectBlock s (n + 1)
+    block-here = first .0 ∙ sym (object-nth s n)
 
-    pub list-more : (t' : List ℕ) → RowPut t t' (n + 1) (rowWith s (idAt s (cdhdOf s (At b z))) Missing) → Listing t' z (n + 1)
+    pub list-more : (t' : List ℕ) → RowPut t t' (n + 1) (row (At b z)) → Listing t' z (n + 1)
     list-more t' put =
         record {
           same = put .same ∙ l .same;
           few = omega (arith, list-one);
           rest = rw add-one (first .1);
           rows = λ o one h. by-cases (ℕ-discrete o (n + 1))
-              (λ e. subst⁻¹ (λ (q : ℕ). HasRow s t' q (objectId s q) Missing) e (λ c k. put .new c k ∙ ap (λ (i : ℕ). getD (rowWith s i Missing) c 0) id-here))
+              (λ e. subst⁻¹ (λ (q : ℕ). (c : ℕ) → c < 8 → getD t' (8 * q + c) 0 ≡ getD (row (objectBlock s q)) c 0) e (λ c k. put .new c k ∙ ap (λ (f : Found). getD (row f) c 0) block-here))
               (λ ne c k. put .old o c ne k ∙ l .rows o one (omega arith) c k);
         }
 
-  pub list-all : (t : List ℕ) (at n : ℕ) → Listing t at n → Missing ≡ findTag tag-OBCD s at (length s) → (n ≡ objectCount s) × Listed s t₀ t
+  pub list-all : (t : List ℕ) (at n : ℕ) → Listing t at n → Missing ≡ findTag tag-OBCD s at (length s) → (n ≡ objectCount s) × Filled s row t₀ t
   list-all t at n l none =
       let all : n ≡ objectCount s = drop-none (tagged tag-OBCD s 8 (length s)) n (sym (walk-none tag-OBCD s (length s) at none) ∙ l .rest) (l .few) in
       (all, record { same = l .same; new = λ o one h. l .rows o one (omega arith) })
+
+-- the row of an object's block, with no image
+abbrev pub bareRow : List ℕ → Found → List ℕ
+bareRow s f = rowWith s (idAt s (cdhdOf s f)) Missing
+
+pub listed-of : (s t₀ t : List ℕ) → Filled s (bareRow s) t₀ t → Listed s t₀ t
+unfolding objectId
+listed-of s t₀ t f = record { same = f .same; new = f .new }
 
 -- ---- the images
 -- the first of two

@@ -10,6 +10,7 @@ use Rattle.block.specs.declared.Found.{Found}
 use Rattle.block.specs.declared.Found.the-variants.{At, Missing}
 use Rattle.block.specs.Tag.{tag-OBIM}
 use Rattle.block.specs.Tree.{tagged}
+use Rattle.room.specs.Object.{objectBlock}
 use Rattle.image.specs.Image.{objectCount, objectId, field, imhdOf, hasId, firstOf, imageBlock}
 
 -- an OBIM's payload; 0 and 0 where there is none
@@ -48,6 +49,11 @@ pub record RowPut (t t' : List ℕ) (o : ℕ) (row : List ℕ) : Type 0 where
   pub same : length t' ≡ length t
   pub new : (c : ℕ) → c < 8 → getD t' (8 * o + c) 0 ≡ getD row c 0
   pub old : (q c : ℕ) → (q ≡ o → ⊥) → c < 8 → getD t' (8 * q + c) 0 ≡ getD t (8 * q + c) 0
+
+-- every object's row is put: what `row` makes of its block
+pub record Filled (s : List ℕ) (row : Found → List ℕ) (t t' : List ℕ) : Type 0 where
+  pub same : length t' ≡ length t
+  pub new : (o : ℕ) → 1 ≤ o → o ≤ objectCount s → (c : ℕ) → c < 8 → getD t' (8 * o + c) 0 ≡ getD (row (objectBlock s o)) c 0
 
 -- every object's row is put, with no image
 pub record Listed (s t t' : List ℕ) : Type 0 where

@@ -8,6 +8,8 @@ use Rattle.costume.specs.declared.Drawn.{Drawn}
 use Rattle.costume.specs.declared.Drawn.the-variants as drawn
 use Rattle.blocks.specs.declared.Wrote.{Wrote}
 use Rattle.blocks.specs.declared.Wrote.the-variants as wrote
+use Rattle.point.specs.declared.Pointed.{Pointed}
+use Rattle.point.specs.declared.Pointed.the-variants as pointed
 
 -- an accepted call's value
 abbrev pub valued : ℕ → ℕ
@@ -35,3 +37,9 @@ drawnWord (drawn.Picture p) = valued (256 + p)
 abbrev pub wroteWord : Wrote → ℕ
 wroteWord (wrote.Block size) = valued size
 wroteWord (wrote.Refused n) = n
+
+-- the point question: the value is the object's number, 0 for no object
+abbrev pub pointedWord : Pointed → ℕ
+pointedWord (pointed.Object o) = valued o
+pointedWord pointed.Nothing = 0
+pointedWord (pointed.Refused n) = n

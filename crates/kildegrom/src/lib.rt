@@ -11,7 +11,8 @@ ghost use Rattle.costume.specs.Tick.{tickNumber, tickBytes};
 ghost use Rattle.scene.specs.Session.{make, takeBack};
 ghost use Rattle.scene.specs.declared.Place.the-variants as place;
 ghost use Rattle.scene.specs.declared.Step.the-variants as step;
-ghost use Rattle.kildegrom.specs.Word.{hiddenWord, startedWord, drawnWord, wroteWord};
+ghost use Rattle.kildegrom.specs.Word.{hiddenWord, startedWord, drawnWord, wroteWord, pointedWord};
+ghost use Rattle.point.specs.Call.{pointedAt};
 ghost use Rattle.play.specs.Calls.{callNumber, callSession, callPixels, callMasks};
 ghost use Rattle.room.specs.Test.{numberOf};
 ghost use Rattle.room.specs.Record.{recordTest, recordAfter};
@@ -22,6 +23,7 @@ use actor::Answer;
 use blocks::Wrote;
 use costume::Drawn;
 use costume::Started;
+use point::Pointed;
 use scene::Place;
 use scene::Step;
 
@@ -131,6 +133,18 @@ pub extern "C" fn kg_take_back(
     ensures { λ _. ⌜ now (masks .exit) ≡ callMasks (now (room .entry)) (now (session .entry)) (now (pixels .entry)) (now (masks .entry)) takeBack (loadTest (now (room .entry)) (now (session .entry)) (now (pixels .entry)) (now (masks .entry))) ⌝ }
 {
     play::calls::take_back(room, session, pixels, masks)
+}
+
+// The object under a point.
+#[no_mangle]
+pub extern "C" fn kg_object_at(room: &[u8], session: &[u8], flags: &[u8], x: u32, y: u32) -> u64
+    ensures { λ r. ⌜ r ≡ pointedWord (pointedAt (now (room .entry)) (now (session .entry)) (now (flags .entry)) x y) ⌝ }
+{
+    match point::call::object_at(room, session, flags, x, y) {
+        Pointed::Object(o) => (o as u64) * 4294967296,
+        Pointed::Nothing => 0,
+        Pointed::Refused(number) => number as u64,
+    }
 }
 
 // An object's header.

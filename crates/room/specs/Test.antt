@@ -76,3 +76,8 @@ fixedOnly size n = record { «fixed_short» = ltb n size; «has_surfaces» = fal
 abbrev pub withSurfaces : (size n pixels masks : ℕ) → Lent
 withSurfaces size n pixels masks =
     record { «fixed_short» = ltb n size; «has_surfaces» = true; pixels = pixels; masks = masks; «has_flags» = false; flags = 0 }
+
+-- a session of a fixed size, lent with n bytes, and a flag byte per object
+abbrev pub withFlags : (size n flags : ℕ) → Lent
+withFlags size n flags =
+    record { «fixed_short» = ltb n size; «has_surfaces» = false; pixels = 0; masks = 0; «has_flags» = true; flags = flags }

@@ -3,7 +3,7 @@ ghost use mathlib.Core.Path.{_≡_};
 ghost use Prim.Native.Nat.{_≤_};
 ghost use Rattle.table.specs.Test.{leftmost};
 ghost use Rattle.room.specs.Head.{Sound};
-ghost use Rattle.room.specs.Test.{planeIn, planeTest, picturesTest, short, roomTest, nothing, fixedOnly, withSurfaces};
+ghost use Rattle.room.specs.Test.{planeIn, planeTest, picturesTest, short, roomTest, nothing, fixedOnly, withSurfaces, withFlags};
 use crate::Lent;
 use crate::Room;
 use crate::Tested;
@@ -142,5 +142,19 @@ pub fn surfaces_lent(size: usize, n: usize, pixels: usize, masks: usize) -> Lent
         masks,
         has_flags: false,
         flags: 0,
+    }
+}
+
+// A session of a fixed size, lent with n bytes, and a flag byte per object.
+pub fn flags_lent(size: usize, n: usize, flags: usize) -> Lent
+    ensures { λ l. ⌜ l ≡ withFlags size n flags ⌝ }
+{
+    Lent {
+        fixed_short: n < size,
+        has_surfaces: false,
+        pixels: 0,
+        masks: 0,
+        has_flags: true,
+        flags,
     }
 }

@@ -1,0 +1,77 @@
+-- The answer of the point question, from the session's list as the tables settle it.
+use Prim.Native.Nat.{ℕ, zero, suc, _≤_, _<_}
+use mathlib.Core.Path.{_≡_, refl, sym, ap, _∙_}
+use mathlib.Core.Bool.{Bool, true, false, cond, _&&_, _||_}
+use mathlib.Core.List.{List}
+use native.Mathlib.Omega.{arith}
+use mathlib.Core.Bool.{true≢false}
+use borrow.Author.Tests.{lt-ltb, le-ltb, ltb-false, eq-eqb, ne-eqb}
+use lib.Dec.{ltb, eqb}
+use lib.ListN.{length}
+use Rattle.room.specs.Test.{short, withFlags}
+use Rattle.room.specs.declared.Room as room
+use Rattle.scene.specs.Painting.{Room}
+use Rattle.scene.specs.Steps.{Scene}
+use Rattle.scene.specs.Session.{rightFor, sceneOf}
+use Rattle.scene.specs.declared.Entry.{Entry}
+use Rattle.session.specs.Bytes.{sessionOf, stepsOf, readable}
+use Rattle.session.specs.Plans.{Plan, no, ok, planOf, entries, settledOf, sceneAfter}
+use Rattle.session.specs.Tables.{Knows, tabled}
+use Rattle.session.specs.declared.Shown.{Shown}
+use Rattle.session.specs.declared.Size.{Size}
+use Rattle.session.proofs.Caller.{settled-known}
+use Rattle.session.proofs.PlanLaws.{plan-means}
+use Rattle.repaint.specs.Decoded.{decoded}
+use Rattle.play.specs.Size.{sizeOf}
+use Rattle.point.specs.Objects.{objectsOf}
+use Rattle.point.specs.Point.{objectAt}
+use Rattle.point.specs.Call.{found, inside, asked}
+use Rattle.point.specs.declared.Pointed.{Pointed}
+use Rattle.point.specs.declared.Pointed.the-variants.{Object, Nothing, Refused}
+
+-- a session and flags that are not too short
+pub flags-long : (size n flags : ℕ) (r : room.Room) → short (withFlags size n flags) r ≡ false → (size ≤ n) × (r .objects ≤ flags)
+unfolding short
+flags-long size n flags r h = go (ltb n size) (ltb flags (r .objects)) refl refl h
+  where
+    go : (p q : Bool) → ltb n size ≡ p → ltb flags (r .objects) ≡ q → (p || false || q) ≡ false → (size ≤ n) × (r .objects ≤ flags)
+    go true q a b f = absurd (true≢false f)
+    go false true a b f = absurd (true≢false f)
+    go false false a b f = (ltb-false n size a, ltb-false flags (r .objects) b)
+
+pub found-some : (o : ℕ) → (o ≡ 0 → ⊥) → Object o ≡ found o
+found-some zero f = absurd (f refl)
+found-some (suc o) f = refl
+
+module _ (s : List ℕ) (r : room.Room) (t v l flags : List ℕ) (x y : ℕ) (K : Knows (decoded s r) t v (sizeOf r) (readable l)) (shown : Shown)
+    (q : planOf shown ≡ settledOf (tabled t v (sizeOf r)) l) where
+  abbrev D : Room
+  D = decoded s r
+
+  means : (eqb (shown .refusal) 0 ≡ rightFor D (sessionOf D l)) × (shown .refusal ≡ 0 → entries shown ≡ sessionOf D l .shown)
+  unfolding settledOf
+  means = plan-means shown (rightFor D (sessionOf D l)) 9 (sessionOf D l .shown) (q ∙ sym (settled-known D t v (sizeOf r) l K))
+
+  pub asked-wrong : (shown .refusal ≡ 0 → ⊥) → Refused 9 ≡ asked s r l flags x y
+  unfolding asked
+  asked-wrong f = let w : rightFor D (sessionOf D l) ≡ false = sym (means .0) ∙ ne-eqb (shown .refusal) 0 f in rw w
+
+  module _ (z : shown .refusal ≡ 0) where
+    right : rightFor D (sessionOf D l) ≡ true
+    right = sym (means .0) ∙ eq-eqb (shown .refusal) 0 z
+
+    pub asked-right-of : r .width ≤ x → Refused 14 ≡ asked s r l flags x y
+    unfolding asked
+    asked-right-of h = rw (right, le-ltb x (r .width) h)
+
+    module _ (across : x < r .width) where
+      pub asked-below : r .height ≤ y → Refused 14 ≡ asked s r l flags x y
+      unfolding asked
+      asked-below h = rw (right, lt-ltb x (r .width) across, le-ltb y (r .height) h)
+
+      pub asked-in : y < r .height → (o : ℕ) (p : Pointed) → p ≡ found o
+          → ((d : Room) → o ≡ objectAt (objectsOf s) (sceneAfter d (stepsOf l) (entries shown)) flags x y) → p ≡ asked s r l flags x y
+      unfolding asked sceneOf sessionOf
+      asked-in h o p e f =
+          e ∙ ap found (f D ∙ ap (λ (es : List Entry). objectAt (objectsOf s) (sceneAfter D (stepsOf l) es) flags x y) (means .1 z))
+          ∙ rw (right, lt-ltb x (r .width) across, lt-ltb y (r .height) h)

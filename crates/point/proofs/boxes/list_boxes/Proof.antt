@@ -1,0 +1,73 @@
+-- `point::boxes::list_boxes` meets its contract. Assumes nothing.
+use Rattle.image.proofs.GatherLaws.{Listing, list-none, list-one, list-more, list-all}
+use Rattle.point.specs.Tables.{boxRow}
+use Rattle.block.proofs.Laws.{nth-at}
+use borrow.Author.Needs.{needs}
+use Prim.Native.Nat.{_-_}
+use native.Mathlib.Omega.{arith}
+use mathlib.Core.Path.{sym, _∙_}
+use Rattle.point.proofs.boxes.list_boxes.Statement.{statement}
+use Rattle.point.proofs.boxes.list_boxes.Tie as tie
+
+abbrev Inv-loop : tie.InvT-loop
+Inv-loop room boxes₀ end at₀ n₀ boxes at n = Listing room (boxRow room) boxes₀ boxes at n
+
+abbrev μ-loop : tie.MeasureT-loop
+μ-loop room boxes₀ end at₀ n₀ boxes at n = end - at
+
+loop-holds : tie.Need-loop-holds Inv-loop μ-loop
+loop-holds c = list-none _ _ _
+
+find-tag-requires : tie.Need-find-tag-requires Inv-loop μ-loop
+find-tag-requires c κs = omega arith
+
+enum-known-b : tie.Need-enum-known-b Inv-loop μ-loop
+enum-known-b c = search needs
+
+box-row-requires : tie.Need-box-row-requires Inv-loop μ-loop
+box-row-requires c κs =
+    let i = nth-at _ _ _ _ 0 _ _ (sym (c .before .b .given .1) ∙ c .before .before .before .find-tag .ensures) in
+    omega arith
+
+add-n : tie.Need-add-n Inv-loop μ-loop
+add-n c = omega (arith, c .before .before .before .before .before .loop .inv .few)
+
+put-row-requires : tie.Need-put-row-requires Inv-loop μ-loop
+put-row-requires c κs =
+    let one = list-one _ _ _ _ _ _ _ _ (c .before .before .before .before .before .before .before .loop .inv) (sym (c .before .before .before .before .b .given .1) ∙ c .before .before .before .before .before .before .find-tag .ensures) in
+    omega (arith, one, c .before .before .before .before .before .before .before .loop .inv .same)
+
+loop-less : tie.Need-loop-less Inv-loop μ-loop
+loop-less c =
+    let i = nth-at _ _ _ _ 0 _ _ (sym (c .before .before .before .before .before .before .before .b .given .1) ∙ c .before .before .before .before .before .before .before .before .before .find-tag .ensures) in
+    omega arith
+
+loop-again : tie.Need-loop-again Inv-loop μ-loop
+loop-again c = list-more _ _ _ _ _ _ _ _ (c .before .before .before .before .before .before .before .before .before .before .loop .inv) (sym (c .before .before .before .before .before .before .before .b .given .1) ∙ c .before .before .before .before .before .before .before .before .before .find-tag .ensures) _ (rw (c .before .before .before .before .before .box-row .ensures) at (c .before .before .put-row .ensures))
+
+enum-told : tie.Need-enum-told Inv-loop μ-loop
+enum-told c = search needs
+
+same-length : tie.Need-same-length Inv-loop μ-loop
+same-length c = c .before .before .before .loop .inv .same
+
+returns : tie.Need-returns Inv-loop μ-loop
+returns c = list-all _ _ _ _ _ _ (c .before .before .before .loop .inv) (sym (c .enum-told .given .1) ∙ c .before .before .find-tag .ensures) .1
+
+pub list-boxes-spec : {M : Type 1} → statement M
+list-boxes-spec =
+    tie.close
+    (tie.spec
+    Inv-loop
+    μ-loop
+    loop-holds
+    find-tag-requires
+    enum-known-b
+    box-row-requires
+    add-n
+    put-row-requires
+    loop-less
+    loop-again
+    enum-told
+    same-length
+    returns)

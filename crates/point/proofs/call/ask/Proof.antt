@@ -1,0 +1,105 @@
+use Rattle.point.proofs.CallLaws.{asked-wrong, asked-right-of, asked-below, asked-in}
+use Rattle.point.specs.Call.{asked}
+use native.Mathlib.Omega.{arith}
+use denote.Ref.{now}
+use mathlib.Core.Path.{_≡_, sym, ap, _∙_}
+use borrow.Author.Needs.{needs}
+use Rattle.point.proofs.call.ask.Statement.{statement}
+use Rattle.point.proofs.call.ask.Tie as tie
+use Rattle.point.proofs.call.ask.Reads as reads
+use Rattle.point.proofs.call.ask.Lts as lts
+use Rattle.play.proofs.step.size_of.Reads as size-of-reads
+use Rattle.play.proofs.verdict.judge_history.Reads as judge-history-reads
+use Rattle.point.proofs.call.answer.Reads as answer-reads
+use Rattle.point.proofs.call.seek.Reads as seek-reads
+use Rattle.session.proofs.plan.settled.Reads as settled-reads
+use Rattle.session.proofs.tables.wide.Reads as wide-reads
+
+-- src/call.rt:77:44
+slice-aggregate-judge-history : tie.Need-slice-aggregate-judge-history
+slice-aggregate-judge-history c = search needs
+
+-- src/call.rt:77:5
+judge-history-requires : tie.Need-judge-history-requires
+judge-history-requires c κs = (c .before .before .before .before .before .pre .0, (c .before .before .before .before .before .pre .1 .0, omega arith))
+
+-- src/call.rt:78:9
+size-of-requires : tie.Need-size-of-requires
+size-of-requires c κs = search needs
+
+-- src/call.rt:79:41
+slice-aggregate-settled : tie.Need-slice-aggregate-settled
+slice-aggregate-settled c = search needs
+
+-- src/call.rt:79:9
+settled-requires : tie.Need-settled-requires
+settled-requires c κs =
+    let sound = c .before .before .before .before .before .before .before .before .before .pre .0 .0 .sound in
+    let e = c .before .size-of .ensures in
+    (c .before .before .before .before .before .before .before .before .before .pre .1 .0, c .before .before .before .before .before .before .before .before .before .pre .0 .0 .gathered .long, omega (arith, c .before .before .before .judge-history .kept .1 .1 .1 .1 .0), rw e (omega (arith, sound .widest), sound .highest, sound .counted))
+
+-- src/call.rt:81:9
+returns : tie.Need-returns
+returns c =
+    let a = c .before .before .before .before .before .before .before .before .before .before .before .before .args in
+    let v = c .before .before .before .before .before .before .judge-history .last .1 .1 .1 .1 .0 in
+    asked-wrong (now (a .room)) (a .r) (now (a .table)) v (now (a .session)) (now (a .flags)) (a .x) (a .y) (c .before .before .before .before .before .before .judge-history .ensures) (c .before .before .settled .result) (rw (c .before .before .before .before .size-of .ensures) at (c .before .before .settled .ensures .0)) (c .if1 .taken)
+
+-- src/call.rt:83:9
+wide-requires : tie.Need-wide-requires
+wide-requires c κs = search needs
+
+-- src/call.rt:84:9
+wide-requires-2 : tie.Need-wide-requires-2
+wide-requires-2 c κs = search needs
+
+-- src/call.rt:86:9
+returns-2 : tie.Need-returns-2
+returns-2 c =
+    let a = c .before .before .before .before .before .before .before .before .before .before .before .before .before .before .before .before .args in
+    let v = c .before .before .before .before .before .before .before .before .before .before .judge-history .last .1 .1 .1 .1 .0 in
+    asked-right-of (now (a .room)) (a .r) (now (a .table)) v (now (a .session)) (now (a .flags)) (a .x) (a .y) (c .before .before .before .before .before .before .before .before .before .before .judge-history .ensures) (c .before .before .before .before .before .before .settled .result) (rw (c .before .before .before .before .before .before .before .before .size-of .ensures) at (c .before .before .before .before .before .before .settled .ensures .0)) (c .before .before .before .before .if1 .left) (omega (arith, c .before .before .before .wide .ensures .0, c .if2 .taken))
+
+-- src/call.rt:89:9
+returns-3 : tie.Need-returns-3
+returns-3 c =
+    let a = c .before .before .before .before .before .before .before .before .before .before .before .before .before .before .before .before .before .before .args in
+    let v = c .before .before .before .before .before .before .before .before .before .before .before .before .judge-history .last .1 .1 .1 .1 .0 in
+    asked-below (now (a .room)) (a .r) (now (a .table)) v (now (a .session)) (now (a .flags)) (a .x) (a .y) (c .before .before .before .before .before .before .before .before .before .before .before .before .judge-history .ensures) (c .before .before .before .before .before .before .before .before .settled .result) (rw (c .before .before .before .before .before .before .before .before .before .before .size-of .ensures) at (c .before .before .before .before .before .before .before .before .settled .ensures .0)) (c .before .before .before .before .before .before .if1 .left) (omega (arith, c .before .before .before .before .before .wide .ensures .0, c .before .before .if2 .left)) (omega (arith, c .before .before .before .before .wide2 .ensures .0, c .if3 .taken))
+
+-- src/call.rt:91:9
+seek-requires : tie.Need-seek-requires
+seek-requires c κs =
+    let sound = c .before .before .before .before .before .before .before .before .before .before .before .before .before .before .before .before .before .before .pre .0 .0 .sound in
+    let e = c .before .before .before .before .before .before .before .before .before .before .size-of .ensures in
+    ((rw e (c .before .before .before .before .before .before .before .before .before .before .before .before .before .before .before .before .before .before .pre .0 .1), rw e (omega (arith, sound .widest), sound .highest, sound .counted), rw e (c .before .before .before .before .before .before .before .before .before .before .before .before .before .before .before .before .before .before .pre .1 .1)), (c .before .before .before .before .before .before .before .before .before .before .before .before .before .before .before .before .before .before .pre .1 .0, c .before .before .before .before .before .before .before .before .settled .ensures .2 (c .before .before .before .before .before .before .if1 .left) .1, c .before .before .before .before .before .before .before .before .settled .ensures .1))
+
+-- src/call.rt:92:5
+answer-requires : tie.Need-answer-requires
+answer-requires c κs = search needs
+
+-- src/call.rt:63:1
+returns-4 : tie.Need-returns-4
+returns-4 c =
+    let a = c .before .before .before .before .before .before .before .before .before .before .before .before .before .before .before .before .before .before .before .before .args in
+    let v = c .before .before .before .before .before .before .before .before .before .before .before .before .before .before .judge-history .last .1 .1 .1 .1 .0 in
+    asked-in (now (a .room)) (a .r) (now (a .table)) v (now (a .session)) (now (a .flags)) (c .before .before .before .before .before .before .before .wide .result) (c .before .before .before .before .before .before .wide2 .result) (c .before .before .before .before .before .before .before .before .before .before .before .before .before .before .judge-history .ensures) (c .before .before .before .before .before .before .before .before .before .before .settled .result) (rw (c .before .before .before .before .before .before .before .before .before .before .before .before .size-of .ensures) at (c .before .before .before .before .before .before .before .before .before .before .settled .ensures .0)) (c .before .before .before .before .before .before .before .before .if1 .left) (omega (arith, c .before .before .before .before .if2 .left)) (omega (arith, c .before .before .if3 .left)) _ _ (c .answer .ensures) (c .before .seek .ensures)
+    ∙ (λ i. asked (now (a .room)) (a .r) (now (a .session)) (now (a .flags)) (c .before .before .before .before .before .before .before .wide .ensures .0 i) (c .before .before .before .before .before .before .wide2 .ensures .0 i))
+
+pub ask-spec : {M : Type 1} → statement M
+ask-spec =
+    tie.close
+    (tie.spec
+    slice-aggregate-judge-history
+    judge-history-requires
+    size-of-requires
+    slice-aggregate-settled
+    settled-requires
+    returns
+    wide-requires
+    wide-requires-2
+    returns-2
+    returns-3
+    seek-requires
+    answer-requires
+    returns-4)

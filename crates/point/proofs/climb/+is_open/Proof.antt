@@ -1,0 +1,280 @@
+use borrow.Author.Needs.{needs}
+use native.Mathlib.Omega.{arith}
+use mathlib.Core.Path.{_≡_, sym, ap, _∙_}
+use Prim.Native.Nat.{_-_}
+use denote.Ref.{now}
+use Rattle.point.specs.Point.{isOpen, lets}
+use Rattle.point.specs.Tables.{boxesOf, stateIn}
+use Rattle.point.proofs.PointLaws.{climb-out, climb-top, climb-gone, climb-on, climb-shut}
+use Prim.Native.Nat.{ℕ, _<_}
+use borrow.Fn.Kinds.{In}
+use borrow.Fn.PlainCycle.{Measures, is, falls, and}
+use Rattle.point.proofs.climb.is_open.Reads as is-open
+use Rattle.point.proofs.climb.is_open.Kinds as is-open-kinds
+use Rattle.point.proofs.climb.+is_open.Lts-is_open as is-open-lts
+use Rattle.point.proofs.climb.lets.Reads as lets-reads
+use Rattle.session.proofs.tables.wide.Reads as wide-reads
+use Rattle.point.proofs.climb.+is_open.{statement}
+use Rattle.point.proofs.climb.+is_open.Tie.{close}
+
+abbrev μ-is-open : Measures 2 is-open-kinds.ps ℕ
+μ-is-open κs a = a .1 .1 .1 .0
+
+abbrev is-open-at : ℕ → In 2 is-open-kinds.ps
+is-open-at t = and 2 is-open-kinds.ps (is 2 is-open-kinds.ps μ-is-open t) is-open.Pre
+
+abbrev is-open-below : ℕ → In 2 is-open-kinds.ps
+is-open-below t = and 2 is-open-kinds.ps (falls 2 is-open-kinds.ps _<_ μ-is-open t) is-open.Pre
+
+-- src/climb.rt:57:9
+is-open-returns : (t : ℕ) → is-open-lts.Need-returns (
+  wide-reads.Asked,
+  wide-reads.Learnt,
+  lets-reads.Asked,
+  lets-reads.Learnt,
+  is-open-below t,
+  is-open.Post,
+) (is-open-at t) is-open.Post
+is-open-returns t c = climb-out _ _ _ _ (c .if1 .taken)
+
+-- src/climb.rt:59:29
+is-open-mul-wide : (t : ℕ) → is-open-lts.Need-mul-wide (
+  wide-reads.Asked,
+  wide-reads.Learnt,
+  lets-reads.Asked,
+  lets-reads.Learnt,
+  is-open-below t,
+  is-open.Post,
+) (is-open-at t) is-open.Post
+is-open-mul-wide t c = search needs
+
+-- src/climb.rt:59:29
+is-open-add-wide : (t : ℕ) → is-open-lts.Need-add-wide (
+  wide-reads.Asked,
+  wide-reads.Learnt,
+  lets-reads.Asked,
+  lets-reads.Learnt,
+  is-open-below t,
+  is-open.Post,
+) (is-open-at t) is-open.Post
+is-open-add-wide t c = search needs
+
+-- src/climb.rt:59:23
+is-open-mul-wide-2 : (t : ℕ) → is-open-lts.Need-mul-wide-2 (
+  wide-reads.Asked,
+  wide-reads.Learnt,
+  lets-reads.Asked,
+  lets-reads.Learnt,
+  is-open-below t,
+  is-open.Post,
+) (is-open-at t) is-open.Post
+is-open-mul-wide-2 t c = search needs
+
+-- src/climb.rt:59:23
+is-open-shared-slice-read-wide : (t : ℕ) → is-open-lts.Need-shared-slice-read-wide (
+  wide-reads.Asked,
+  wide-reads.Learnt,
+  lets-reads.Asked,
+  lets-reads.Learnt,
+  is-open-below t,
+  is-open.Post,
+) (is-open-at t) is-open.Post
+is-open-shared-slice-read-wide t c = search needs
+
+-- src/climb.rt:59:9
+is-open-wide-requires : (t : ℕ) → is-open-lts.Need-wide-requires (
+  wide-reads.Asked,
+  wide-reads.Learnt,
+  lets-reads.Asked,
+  lets-reads.Learnt,
+  is-open-below t,
+  is-open.Post,
+) (is-open-at t) is-open.Post
+is-open-wide-requires t c κs = search needs
+
+-- src/climb.rt:61:9
+is-open-returns-2 : (t : ℕ) → is-open-lts.Need-returns-2 (
+  wide-reads.Asked,
+  wide-reads.Learnt,
+  lets-reads.Asked,
+  lets-reads.Learnt,
+  is-open-below t,
+  is-open.Post,
+) (is-open-at t) is-open.Post
+is-open-returns-2 t c = climb-top _ _ _ _ (c .before .before .before .if1 .left) (sym (c .before .wide .ensures .0) ∙ c .if2 .taken)
+
+-- src/climb.rt:64:9
+is-open-returns-3 : (t : ℕ) → is-open-lts.Need-returns-3 (
+  wide-reads.Asked,
+  wide-reads.Learnt,
+  lets-reads.Asked,
+  lets-reads.Learnt,
+  is-open-below t,
+  is-open.Post,
+) (is-open-at t) is-open.Post
+is-open-returns-3 t c = climb-gone _ _ _ _ (c .before .before .before .before .if1 .left) (λ e. c .before .if2 .left (c .before .before .wide .ensures .0 ∙ e)) (omega (arith, c .before .before .wide .ensures .0))
+
+-- src/climb.rt:66:19
+is-open-mul-lets : (t : ℕ) → is-open-lts.Need-mul-lets (
+  wide-reads.Asked,
+  wide-reads.Learnt,
+  lets-reads.Asked,
+  lets-reads.Learnt,
+  is-open-below t,
+  is-open.Post,
+) (is-open-at t) is-open.Post
+is-open-mul-lets t c = search needs
+
+-- src/climb.rt:66:19
+is-open-add-lets : (t : ℕ) → is-open-lts.Need-add-lets (
+  wide-reads.Asked,
+  wide-reads.Learnt,
+  lets-reads.Asked,
+  lets-reads.Learnt,
+  is-open-below t,
+  is-open.Post,
+) (is-open-at t) is-open.Post
+is-open-add-lets t c = search needs
+
+-- src/climb.rt:66:13
+is-open-mul-lets-2 : (t : ℕ) → is-open-lts.Need-mul-lets-2 (
+  wide-reads.Asked,
+  wide-reads.Learnt,
+  lets-reads.Asked,
+  lets-reads.Learnt,
+  is-open-below t,
+  is-open.Post,
+) (is-open-at t) is-open.Post
+is-open-mul-lets-2 t c = search needs
+
+-- src/climb.rt:66:13
+is-open-shared-slice-read-lets : (t : ℕ) → is-open-lts.Need-shared-slice-read-lets (
+  wide-reads.Asked,
+  wide-reads.Learnt,
+  lets-reads.Asked,
+  lets-reads.Learnt,
+  is-open-below t,
+  is-open.Post,
+) (is-open-at t) is-open.Post
+is-open-shared-slice-read-lets t c = search needs
+
+-- src/climb.rt:66:31
+is-open-mul-lets-3 : (t : ℕ) → is-open-lts.Need-mul-lets-3 (
+  wide-reads.Asked,
+  wide-reads.Learnt,
+  lets-reads.Asked,
+  lets-reads.Learnt,
+  is-open-below t,
+  is-open.Post,
+) (is-open-at t) is-open.Post
+is-open-mul-lets-3 t c = search needs
+
+-- src/climb.rt:66:31
+is-open-shared-slice-read-lets-2 : (t : ℕ) → is-open-lts.Need-shared-slice-read-lets-2 (
+  wide-reads.Asked,
+  wide-reads.Learnt,
+  lets-reads.Asked,
+  lets-reads.Learnt,
+  is-open-below t,
+  is-open.Post,
+) (is-open-at t) is-open.Post
+is-open-shared-slice-read-lets-2 t c = search needs
+
+-- src/climb.rt:66:8
+is-open-lets-requires : (t : ℕ) → is-open-lts.Need-lets-requires (
+  wide-reads.Asked,
+  wide-reads.Learnt,
+  lets-reads.Asked,
+  lets-reads.Learnt,
+  is-open-below t,
+  is-open.Post,
+) (is-open-at t) is-open.Post
+is-open-lets-requires t c κs = search needs
+
+-- src/climb.rt:67:46
+is-open-sub-is-open : (t : ℕ) → is-open-lts.Need-sub-is-open (
+  wide-reads.Asked,
+  wide-reads.Learnt,
+  lets-reads.Asked,
+  lets-reads.Learnt,
+  is-open-below t,
+  is-open.Post,
+) (is-open-at t) is-open.Post
+is-open-sub-is-open t c = search needs
+
+-- src/climb.rt:67:9
+is-open-is-open-requires : (t : ℕ) → is-open-lts.Need-is-open-requires (
+  wide-reads.Asked,
+  wide-reads.Learnt,
+  lets-reads.Asked,
+  lets-reads.Learnt,
+  is-open-below t,
+  is-open.Post,
+) (is-open-at t) is-open.Post
+is-open-is-open-requires t c κs = search needs
+
+-- src/climb.rt:67:9
+is-open-returns-4 : (t : ℕ) → is-open-lts.Need-returns-4 (
+  wide-reads.Asked,
+  wide-reads.Learnt,
+  lets-reads.Asked,
+  lets-reads.Learnt,
+  is-open-below t,
+  is-open.Post,
+) (is-open-at t) is-open.Post
+is-open-returns-4 t c =
+    let a = c .before .before .before .before .before .before .before .before .before .before .before .before .args in
+    let obs = boxesOf (now (a .boxes)) (a .count) in
+    let state = stateIn (now (a .states)) in
+    let w = c .before .before .before .before .before .before .before .wide .ensures .0 in
+    c .is-open .ensures ∙ ap (isOpen obs state (a .links - 1)) w
+    ∙ climb-on obs state (a .links) (a .o) (c .before .before .before .before .before .before .before .before .before .if1 .left) (λ e. c .before .before .before .before .before .before .if2 .left (w ∙ e)) (omega (arith, w)) _
+    (c .before .before .lets .ensures ∙ ap (λ (k : ℕ). lets (obs .flags (a .o)) (state k)) w) (c .before .if4 .taken)
+
+-- src/climb.rt:52:1
+is-open-returns-5 : (t : ℕ) → is-open-lts.Need-returns-5 (
+  wide-reads.Asked,
+  wide-reads.Learnt,
+  lets-reads.Asked,
+  lets-reads.Learnt,
+  is-open-below t,
+  is-open.Post,
+) (is-open-at t) is-open.Post
+is-open-returns-5 t c =
+    let a = c .before .before .before .before .before .before .before .before .before .before .before .args in
+    let obs = boxesOf (now (a .boxes)) (a .count) in
+    let state = stateIn (now (a .states)) in
+    let w = c .before .before .before .before .before .before .wide .ensures .0 in
+    climb-shut obs state (a .links) (a .o) (c .before .before .before .before .before .before .before .before .if1 .left) (λ e. c .before .before .before .before .before .if2 .left (w ∙ e)) (omega (arith, w)) _
+    (c .before .lets .ensures ∙ ap (λ (k : ℕ). lets (obs .flags (a .o)) (state k)) w) (c .if4 .left)
+
+pub +is-open-spec : {M : Type 1} → statement M
++is-open-spec = close μ-is-open λ t. is-open-lts.spec (
+  wide-reads.Asked,
+  wide-reads.Learnt,
+  lets-reads.Asked,
+  lets-reads.Learnt,
+  is-open-below t,
+  is-open.Post,
+)
+    (is-open-at t)
+    is-open.Post
+    (is-open-returns t)
+    (is-open-mul-wide t)
+    (is-open-add-wide t)
+    (is-open-mul-wide-2 t)
+    (is-open-shared-slice-read-wide t)
+    (is-open-wide-requires t)
+    (is-open-returns-2 t)
+    (is-open-returns-3 t)
+    (is-open-mul-lets t)
+    (is-open-add-lets t)
+    (is-open-mul-lets-2 t)
+    (is-open-shared-slice-read-lets t)
+    (is-open-mul-lets-3 t)
+    (is-open-shared-slice-read-lets-2 t)
+    (is-open-lets-requires t)
+    (is-open-sub-is-open t)
+    (is-open-is-open-requires t)
+    (is-open-returns-4 t)
+    (is-open-returns-5 t)

@@ -1,0 +1,4 @@
+pub mod Objects
+pub mod Point
+pub mod Tables
+pub mod Call

@@ -1,0 +1,41 @@
+-- What the point question asks of a room's objects (document 01, "Actors, points, limbs"; CDHD as in source 003). o is an object's number
+-- from 1.
+use Prim.Native.Nat.{ℕ, _+_, _*_}
+use mathlib.Core.List.{List}
+use lib.ListN.{getD}
+use Rattle.block.specs.declared.Found.{Found}
+use Rattle.block.specs.declared.Found.the-variants.{At, Missing}
+use Rattle.room.specs.Object.{objectBlock}
+use Rattle.image.specs.Image.{objectCount, cdhdOf}
+
+-- CDHD's place and size in pixels, its flags, and the object that contains it, 0 where there is none
+pub record Objects : Type 0 where
+  pub count : ℕ
+  pub x : ℕ → ℕ
+  pub y : ℕ → ℕ
+  pub width : ℕ → ℕ
+  pub height : ℕ → ℕ
+  pub flags : ℕ → ℕ
+  pub parent : ℕ → ℕ
+
+-- byte n of a header's payload; 0 where there is no header
+abbrev pub byteOf : List ℕ → ℕ → Found → ℕ
+byteOf s n (At p z) = getD s (p + n) 0
+byteOf s n Missing = 0
+
+-- byte n of the object's CDHD
+unfoldable pub cdhdByte : List ℕ → (n o : ℕ) → ℕ
+cdhdByte s n o = byteOf s n (cdhdOf s (objectBlock s o))
+
+-- the objects of a room's bytes: CDHD counts place and size in strips of 8 pixels
+unfoldable pub objectsOf : List ℕ → Objects
+objectsOf s =
+    record {
+      count = objectCount s;
+      x = λ o. 8 * cdhdByte s 2 o;
+      y = λ o. 8 * cdhdByte s 3 o;
+      width = λ o. 8 * cdhdByte s 4 o;
+      height = λ o. 8 * cdhdByte s 5 o;
+      flags = cdhdByte s 6;
+      parent = cdhdByte s 7;
+    }

@@ -1,0 +1,100 @@
+// The point question on any bytes: the room's own refusals first, 1 to 8 with 4, then 9 and 14.
+ghost use mathlib.Core.Path.{_≡_};
+ghost use Prim.Native.Nat.{_≤_};
+ghost use lib.ListN.{length, getD};
+ghost use Rattle.image.specs.Image.{objectCount};
+ghost use Rattle.repaint.specs.Ready.{Ready};
+ghost use Rattle.scene.specs.Painting as scene;
+ghost use Rattle.session.specs.Bytes.{stepsOf};
+ghost use Rattle.session.specs.Plans.{entries, sceneAfter};
+ghost use Rattle.session.specs.Tables.{Sizes};
+ghost use Rattle.point.specs.Objects.{objectsOf};
+ghost use Rattle.point.specs.Point.{objectAt};
+ghost use Rattle.point.specs.Call.{found, asked, pointedAt};
+use crate::Pointed;
+use crate::boxes::list_boxes;
+use crate::climb::fill_states;
+use crate::hit::lowest_hit;
+use image::gather::gather;
+use play::step::size_of;
+use play::verdict::judge_history;
+use room::Room;
+use room::Tested;
+use room::test::flags_lent;
+use room::test::test_room;
+use session::Shown;
+use session::Size;
+use session::bytes::count;
+use session::plan::settled;
+use session::tables::wide;
+
+// The object under a point of the room, 0 for none, with the shown list of a session that is right.
+fn seek(
+    room: &[u8],
+    session: &[u8],
+    flags: &[u8],
+    size: Size,
+    shown: Shown,
+    x: usize,
+    y: usize,
+) -> u32
+    requires { ⌜ (size .count ≡ objectCount (now room)) × Sizes size × (size .count ≤ length (now flags)) ⌝ }
+    requires { ⌜ (450 ≤ length (now session)) × (getD (now session) 0 0 ≤ 64) × (shown .n ≤ 64) ⌝ }
+    ensures { λ o. ⌜ ((d : scene.Room) → o ≡ objectAt (objectsOf (now (room .entry))) (sceneAfter d (stepsOf (now (session .entry))) (entries shown)) (now (flags .entry)) x y) ⌝ }
+{
+    let mut boxes = [0u32; 1032];
+    list_boxes(room, &mut boxes);
+    let mut states = [0u32; 129];
+    fill_states(shown, &mut states);
+    let steps = count(session[0]);
+    lowest_hit(&boxes, &states, session, flags, size, steps, x, y)
+}
+
+fn answer(o: u32) -> Pointed
+    ensures { λ p. ⌜ p ≡ found o ⌝ }
+{
+    if o == 0 {
+        return Pointed::Nothing;
+    }
+    Pointed::Object(o)
+}
+
+// The question on a room that passes its test.
+fn ask(room: &[u8], r: Room, table: &[u32], session: &[u8], flags: &[u8], x: u32, y: u32) -> Pointed
+    requires { ⌜ Ready (now room) r (now table) × (r .objects ≡ objectCount (now room)) ⌝ }
+    requires { ⌜ (450 ≤ length (now session)) × (r .objects ≤ length (now flags)) ⌝ }
+    ensures { λ p. ⌜ p ≡ asked (now (room .entry)) r (now (session .entry)) (now (flags .entry)) x y ⌝ }
+{
+    let mut verdicts = [0u8; 1290];
+    judge_history(room, r, table, session, &mut verdicts);
+    let size = size_of(r);
+    let shown = settled(session, table, &verdicts, size);
+    if shown.refusal != 0 {
+        return Pointed::Refused(9);
+    }
+    let px = wide(x);
+    let py = wide(y);
+    if r.width <= px {
+        return Pointed::Refused(14);
+    }
+    if r.height <= py {
+        return Pointed::Refused(14);
+    }
+    let o = seek(room, session, flags, size, shown, px, py);
+    answer(o)
+}
+
+// The object under a point.
+pub fn object_at(room: &[u8], session: &[u8], flags: &[u8], x: u32, y: u32) -> Pointed
+    ensures { λ p. ⌜ p ≡ pointedAt (now (room .entry)) (now (session .entry)) (now (flags .entry)) x y ⌝ }
+{
+    let lent = flags_lent(450, session.len(), flags.len());
+    match test_room(room, lent) {
+        Tested::Right(r) => {
+            let mut table = [0u32; 1032];
+            gather(room, &mut table);
+            ask(room, r, &table, session, flags, x, y)
+        }
+        Tested::Refused(number) => Pointed::Refused(number),
+    }
+}
