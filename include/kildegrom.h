@@ -34,6 +34,19 @@ enum kg_refusal {
     KG_ANIMATION_WRONG = 15 /* an animation number, record, window or limb state */
 };
 
+/* A short text for a number that a call answers. */
+static inline const char *kg_refusal_text(uint32_t number)
+{
+    static const char *const texts[] = {
+        "accepted", "not one ROOM block filling the slice, or a block of it is wrong", "a needed block is missing or too short",
+        "width, height, planes, object count or a picture's size is out of range", "a lent buffer is too short",
+        "a strip table doesn't fit its block, or an offset is wrong", "unknown strip code", "strip bytes run out",
+        "an operation passes the end of the strip", "the session isn't one that this room gives", "the history holds 64 steps",
+        "no such object, image state or shown entry", "the place isn't allowed", "nothing to take back", "the point is outside the room",
+        "an animation number, record, window or limb state is wrong" };
+    return number < sizeof texts / sizeof texts[0] ? texts[number] : "unknown number";
+}
+
 /* Sizes in bytes (docs/LAYOUTS.md). Pixels: W * H. Masks: N * (W / 8) * H. */
 enum { KG_RECORD_SIZE = 16, KG_HEADER_SIZE = 16, KG_SESSION_SIZE = 450, KG_LIMBS = 16, KG_LIMB_SIZE = 16, KG_LIMBS_SIZE = 256 };
 

@@ -1,5 +1,5 @@
 #!/usr/bin/env python3
-"""Makes the sample rooms of this folder and the rooms that the bench tests list, with what their listings must be.
+"""Makes the sample room cellar.room and the rooms that the bench tests list, with what their listings must be.
 
 Run it from the repository's top folder: `python3 rooms/make.py`. The numbers that it expects are written down here from document 01,
 case by case; nothing of the Rattle code is asked.
@@ -246,4 +246,5 @@ def main():
     open("rooms/cellar.room", "wb").write(sample())
 
 
-main()
+if __name__ == "__main__":
+    main()

@@ -1,0 +1,108 @@
+/* The start of a C host: loads a room, draws its door, moves it and takes that back, puts an actor before and behind plane 1, and writes
+ * the frame as a PPM picture in grey.
+ *
+ *     example ROOM [OUT.ppm]     standard output where no OUT is named
+ *
+ * Exit status: 0; 1 the library refused a call; 2 a wrong argument or file. */
+#include "kildegrom.h"
+
+#include <stdio.h>
+#include <stdlib.h>
+#include <string.h>
+
+/* The largest room and its surfaces: with these nothing is allocated. One byte more than a room may have, so that a longer file is
+ * refused by the library and not cut. */
+static uint8_t room[1048576 + 1], session[KG_SESSION_SIZE], pixels[1024 * 200], masks[4 * 128 * 200], frame[sizeof pixels];
+static size_t room_size, pixels_size, masks_size;
+static uint32_t width, height, planes;
+
+enum { DOOR = 1, ACTOR_WIDTH = 16, ACTOR_HEIGHT = 40 };
+
+/* The lent buffers of a session call, in their order. */
+#define LENT room, room_size, session, sizeof session, pixels, pixels_size, masks, masks_size
+
+static void stop(const char *what, const char *which)
+{
+    fprintf(stderr, "example: %s: %s\n", what, which);
+    exit(2);
+}
+
+static void accepted(uint32_t number, const char *call)
+{
+    if (number != KG_ACCEPTED) {
+        fprintf(stderr, "example: %s: refused %lu: %s\n", call, (unsigned long)number, kg_refusal_text(number));
+        exit(1);
+    }
+}
+
+static void read_room(const char *path)
+{
+    FILE *file = fopen(path, "rb");
+    if (file == NULL) stop("the file can't be opened", path);
+    room_size = fread(room, 1, sizeof room, file);
+    if (ferror(file)) stop("the file can't be read", path);
+    if (room_size == 0) stop("the file is empty", path);
+    fclose(file);
+}
+
+static void load(void)
+{
+    uint8_t record[KG_RECORD_SIZE];
+    accepted(kg_record(room, room_size, record, sizeof record), "the room's record");
+    width = kg_u16(record);
+    height = kg_u16(record + 2);
+    planes = kg_u16(record + 4);
+    pixels_size = (size_t)width * height;
+    masks_size = (size_t)planes * (width / 8) * height;
+    accepted(kg_load(LENT), "the load");
+}
+
+/* An actor: head, body and legs in three greys. 255 is transparent. */
+static void paint_actor(uint8_t *picture)
+{
+    int x, y;
+    for (y = 0; y < ACTOR_HEIGHT; y++) {
+        for (x = 0; x < ACTOR_WIDTH; x++) {
+            int head = y < 10 && x >= 4 && x < 12, body = y >= 10 && y < 26, leg = y >= 26 && x % 8 >= 1 && x % 8 < 7;
+            picture[y * ACTOR_WIDTH + x] = (uint8_t)(head ? 250 : body ? 20 : leg ? 90 : 255);
+        }
+    }
+}
+
+/* The library's pixels stay as the steps made them; actors are stamped on a copy, anew for each frame. */
+static void stamp(int32_t x, int32_t y, uint32_t clip)
+{
+    uint8_t picture[ACTOR_WIDTH * ACTOR_HEIGHT];
+    paint_actor(picture);
+    accepted(kg_stamp(frame, pixels_size, masks, masks_size, picture, sizeof picture, width, height, planes, ACTOR_WIDTH, ACTOR_HEIGHT,
+                      x, y, clip), "the stamp");
+}
+
+static void write_grey(const char *path)
+{
+    FILE *out = path == NULL ? stdout : fopen(path, "wb");
+    size_t i;
+    if (out == NULL) stop("the file can't be written", path);
+    fprintf(out, "P6\n%lu %lu\n255\n", (unsigned long)width, (unsigned long)height);
+    for (i = 0; i < pixels_size; i++) {
+        uint8_t rgb[3];
+        memset(rgb, frame[i], sizeof rgb);
+        fwrite(rgb, 1, sizeof rgb, out);
+    }
+    if (fflush(out) != 0 || ferror(out)) stop("the picture can't be written", path == NULL ? "standard output" : path);
+}
+
+int main(int argc, char **argv)
+{
+    if (argc < 2 || argc > 3) stop("usage", "example ROOM [OUT.ppm]");
+    read_room(argv[1]);
+    load();
+    accepted(kg_draw_last(LENT, DOOR, 1), "the door in state 1 where it was");
+    accepted(kg_draw_at(LENT, DOOR, 2, 1, 1), "the door in state 2 at strip position (1, 1)");
+    accepted(kg_take_back(LENT), "the take-back");
+    memcpy(frame, pixels, pixels_size);
+    stamp(30, 70, 0);  /* clip 0: before every plane */
+    stamp(232, 70, 1); /* clip 1: behind plane 1 */
+    write_grey(argc == 3 ? argv[2] : NULL);
+    return 0;
+}

@@ -1,0 +1,236 @@
+/* The picture of a room after a list of calls, as a PPM on standard output. The script ./show starts it.
+ *
+ *     show [--plane K] [--boxes] [--palette FILE] ROOM [RECORDS]
+ *
+ * RECORDS is what tools/calls makes of a list. A refused call is named on standard error and leaves the picture as it was. --plane tints
+ * the pixels that plane K hides, --boxes outlines the objects' boxes, a palette is 768 bytes (red, green, blue of the colours 0 to 255).
+ * Exit status: 0; 1 the load was refused; 2 a wrong argument or file. */
+#include "kildegrom.h"
+
+#include <stdarg.h>
+#include <stdio.h>
+#include <stdlib.h>
+#include <string.h>
+
+enum { CALL_SIZE = 20, PALETTE_SIZE = 768 };
+enum kind { HIDE = 0, DRAW_LAST = 1, DRAW_AT = 2, TAKE_BACK = 3 };
+
+struct options {
+    const char *room, *records, *palette;
+    uint32_t plane; /* 0: no overlay */
+    int boxes;
+};
+
+struct call {
+    uint32_t kind, object, state, a, b;
+};
+
+/* The largest room and its surfaces: with these nothing is allocated. One byte more than a room may have, so that a longer file is
+ * refused by the library and not cut. */
+static uint8_t room[1048576 + 1], session[KG_SESSION_SIZE], pixels[1024 * 200], masks[4 * 128 * 200], picture[3 * sizeof pixels];
+static uint8_t palette[PALETTE_SIZE + 1];
+static size_t room_size, pixels_size, masks_size;
+static uint32_t width, height, planes, objects;
+
+/* The lent buffers of a session call, in their order. */
+#define LENT room, room_size, session, sizeof session, pixels, pixels_size, masks, masks_size
+
+static void stop(int status, const char *format, ...)
+{
+    va_list values;
+    va_start(values, format);
+    fprintf(stderr, "show: ");
+    vfprintf(stderr, format, values);
+    fprintf(stderr, "\n");
+    va_end(values);
+    exit(status);
+}
+
+static void usage(void)
+{
+    stop(2, "usage: show [--plane K] [--boxes] [--palette FILE] ROOM [RECORDS]");
+}
+
+static FILE *opened(const char *path)
+{
+    FILE *file = fopen(path, "rb");
+    if (file == NULL) stop(2, "the file can't be opened: %s", path);
+    return file;
+}
+
+static size_t read_file(const char *path, uint8_t *bytes, size_t size)
+{
+    FILE *file = opened(path);
+    size_t n = fread(bytes, 1, size, file);
+    if (ferror(file)) stop(2, "the file can't be read: %s", path);
+    if (n == 0) stop(2, "the file is empty: %s", path);
+    fclose(file);
+    return n;
+}
+
+static uint32_t plane_number(const char *text)
+{
+    if (strlen(text) != 1 || text[0] < '1' || text[0] > '4') stop(2, "--plane takes 1 to 4, not: %s", text);
+    return (uint32_t)(text[0] - '0');
+}
+
+static struct options options_of(int argc, char **argv)
+{
+    struct options o = { NULL, NULL, NULL, 0, 0 };
+    int i;
+    for (i = 1; i < argc; i++) {
+        if (strcmp(argv[i], "--boxes") == 0) o.boxes = 1;
+        else if (strcmp(argv[i], "--plane") == 0 && i + 1 < argc) o.plane = plane_number(argv[++i]);
+        else if (strcmp(argv[i], "--palette") == 0 && i + 1 < argc) o.palette = argv[++i];
+        else if (argv[i][0] == '-') usage();
+        else if (o.room == NULL) o.room = argv[i];
+        else if (o.records == NULL) o.records = argv[i];
+        else usage();
+    }
+    if (o.room == NULL) usage();
+    return o;
+}
+
+static void take_palette(const char *path)
+{
+    size_t i;
+    if (path != NULL && read_file(path, palette, sizeof palette) != PALETTE_SIZE) stop(2, "a palette has 768 bytes: %s", path);
+    for (i = 0; path == NULL && i < PALETTE_SIZE; i++) palette[i] = (uint8_t)(i / 3);
+}
+
+static void load(const char *path)
+{
+    uint8_t record[KG_RECORD_SIZE];
+    uint32_t number;
+    room_size = read_file(path, room, sizeof room);
+    number = kg_record(room, room_size, record, sizeof record);
+    if (number == KG_ACCEPTED) {
+        width = kg_u16(record);
+        height = kg_u16(record + 2);
+        planes = kg_u16(record + 4);
+        objects = kg_u16(record + 6);
+        pixels_size = (size_t)width * height;
+        masks_size = (size_t)planes * (width / 8) * height;
+        number = kg_load(LENT);
+    }
+    if (number != KG_ACCEPTED) stop(1, "%s: refused %lu: %s", path, (unsigned long)number, kg_refusal_text(number));
+}
+
+static uint32_t u32(const uint8_t *at)
+{
+    return kg_u16(at) | (kg_u16(at + 2) << 16);
+}
+
+static uint32_t made(struct call c)
+{
+    switch (c.kind) {
+    case HIDE: return kg_hide(LENT, c.object);
+    case DRAW_LAST: return kg_draw_last(LENT, c.object, c.state);
+    case DRAW_AT: return kg_draw_at(LENT, c.object, c.state, c.a, c.b);
+    default: return kg_take_back(LENT);
+    }
+}
+
+/* Names a refused call as the list of calls writes it. */
+static void tell_refused(unsigned long index, struct call c, uint32_t number)
+{
+    unsigned long object = c.object, state = c.state, a = c.a, b = c.b;
+    fprintf(stderr, "show: call %lu, ", index);
+    if (c.kind == HIDE) fprintf(stderr, "hide %lu", object);
+    if (c.kind == DRAW_LAST) fprintf(stderr, "draw %lu %lu", object, state);
+    if (c.kind == DRAW_AT) fprintf(stderr, "draw %lu %lu at %lu %lu", object, state, a, b);
+    if (c.kind == TAKE_BACK) fprintf(stderr, "back");
+    fprintf(stderr, ": refused %lu: %s\n", (unsigned long)number, kg_refusal_text(number));
+}
+
+static void make_calls(const char *path)
+{
+    FILE *file = opened(path);
+    uint8_t bytes[CALL_SIZE];
+    unsigned long index = 0;
+    size_t n;
+    while ((n = fread(bytes, 1, sizeof bytes, file)) == sizeof bytes) {
+        struct call c;
+        uint32_t number;
+        c.kind = u32(bytes);
+        c.object = u32(bytes + 4);
+        c.state = u32(bytes + 8);
+        c.a = u32(bytes + 12);
+        c.b = u32(bytes + 16);
+        if (c.kind > TAKE_BACK) stop(2, "%s: record %lu is of no known kind", path, index + 1);
+        number = made(c);
+        index++;
+        if (number != KG_ACCEPTED) tell_refused(index, c, number);
+    }
+    if (n != 0 || ferror(file)) stop(2, "%s: not a whole number of records of %d bytes", path, CALL_SIZE);
+    fclose(file);
+}
+
+static void colour_pixels(void)
+{
+    size_t i;
+    for (i = 0; i < pixels_size; i++) memcpy(picture + 3 * i, palette + 3 * pixels[i], 3);
+}
+
+/* Half red, half the picture, where an actor of clip level k is hidden. */
+static void tint_plane(uint32_t k)
+{
+    static const uint8_t red[3] = { 255, 40, 40 };
+    uint32_t x, y, c;
+    for (y = 0; y < height; y++) {
+        for (x = 0; x < width; x++) {
+            uint8_t *at = picture + 3 * ((size_t)y * width + x);
+            if (kg_value(kg_hidden(masks, masks_size, width, height, planes, k, x, y)) == 0) continue;
+            for (c = 0; c < 3; c++) at[c] = (uint8_t)((at[c] + red[c]) / 2);
+        }
+    }
+}
+
+static void dot(uint32_t x, uint32_t y)
+{
+    static const uint8_t yellow[3] = { 255, 255, 0 };
+    if (x < width && y < height) memcpy(picture + 3 * ((size_t)y * width + x), yellow, 3);
+}
+
+/* The box of the object's CDHD; its sizes there are in strips of 8 pixels, and it may pass the room's edges. */
+static void outline(uint32_t object)
+{
+    uint8_t header[KG_HEADER_SIZE];
+    uint32_t left, top, wide, high, i;
+    if (kg_header(room, room_size, header, sizeof header, object) != KG_ACCEPTED) return;
+    left = 8u * header[2];
+    top = 8u * header[3];
+    wide = 8u * header[4];
+    high = 8u * header[5];
+    if (wide == 0 || high == 0) return;
+    for (i = 0; i < wide; i++) {
+        dot(left + i, top);
+        dot(left + i, top + high - 1);
+    }
+    for (i = 0; i < high; i++) {
+        dot(left, top + i);
+        dot(left + wide - 1, top + i);
+    }
+}
+
+static void write_picture(void)
+{
+    printf("P6\n%lu %lu\n255\n", (unsigned long)width, (unsigned long)height);
+    fwrite(picture, 3, pixels_size, stdout);
+    if (fflush(stdout) != 0 || ferror(stdout)) stop(2, "the picture can't be written");
+}
+
+int main(int argc, char **argv)
+{
+    struct options o = options_of(argc, argv);
+    uint32_t object;
+    take_palette(o.palette);
+    load(o.room);
+    if (o.plane > planes) stop(2, "--plane %lu: the room's planes are %lu in number", (unsigned long)o.plane, (unsigned long)planes);
+    if (o.records != NULL) make_calls(o.records);
+    colour_pixels();
+    if (o.plane != 0) tint_plane(o.plane);
+    for (object = 1; o.boxes && object <= objects; object++) outline(object);
+    write_picture();
+    return 0;
+}
