@@ -1,0 +1,17 @@
+-- Demand 2 holds, by the laws of crates actor and blocks.
+use mathlib.Core.Path.{refl}
+use Rattle.actor.proofs.ActorLaws as actor
+use Rattle.blocks.proofs.ReadBack.{smap-call-pixel, plane-call-reads}
+use Rattle.demands.specs.Demand2.{Demand2}
+
+pub demand2 : Demand2
+demand2 =
+    record {
+      picture-reads-back = λ w h rows d len bytes answer. smap-call-pixel w h rows d _ len answer refl bytes;
+      plane-reads-back = λ k w h rows d len answer. plane-call-reads w h rows d _ len k answer refl .row;
+      hidden-exactly = actor.hidden-exactly;
+      stamped-exactly = λ frame masks picture w h n width height clear x y clip accepted column row p q inside-x inside-y at-x at-y in-x in-y opaque. (
+        actor.opaque-hidden frame masks picture w h n width height clear x y clip column row p q inside-x inside-y at-x at-y in-x in-y accepted opaque,
+        actor.opaque-shown frame masks picture w h n width height clear x y clip column row p q inside-x inside-y at-x at-y in-x in-y accepted opaque,
+      );
+    }

@@ -1,0 +1,74 @@
+-- Demand 3 holds, from every accepted load on and for every list of calls: crate play's theorem, said of the bytes.
+use Prim.Native.Nat.{ℕ}
+use mathlib.Core.Path.{_≡_, refl, sym, ap, _∙_, subst}
+use mathlib.Core.Bool.{Bool, true, false, cond}
+use mathlib.Core.List.{List, [], _∷_, map}
+use lib.Dec.{eqb}
+use native.Mathlib.Omega.{arith}
+use Rattle.room.specs.declared.Room as bytes
+use Rattle.room.specs.declared.Tested.the-variants.{Right}
+use Rattle.scene.specs.Painting.{Room, Surfaces}
+use Rattle.scene.specs.Session as scene
+use Rattle.scene.specs.Session.{Call, make, takeBack, State, called, stateAfter, sceneOf}
+use Rattle.repaint.specs.Decoded.{decoded}
+use Rattle.play.specs.Calls.{stateOf}
+use Rattle.play.specs.Bytes.{Lent, testOf, numberOf, bytesAfter}
+use Rattle.play.proofs.Demand3 as play
+use Rattle.demands.specs.Demand3.{sceneIn, surfacesIn, stacked, befores, Restored, Demand3}
+use Rattle.demands.proofs.Demand1.{demand1}
+
+module _ (s : List ℕ) (r : bytes.Room) (b : Lent) (accepted : testOf s b ≡ Right r) where
+  abbrev D : Room
+  D = decoded s r
+
+  abbrev held : Lent → State
+  held x = stateOf D (x .session) (x .pixels) (x .masks)
+
+  state-is : (cs : List Call) → held (bytesAfter s b cs) ≡ stateAfter D (surfacesIn b) cs
+  state-is cs = play.reached s r b accepted cs .state
+
+  -- what stood before each step, as states
+  stacked-held : (c : Call) (x : Lent) (bs : List Lent) → map held (stacked c x bs) ≡ scene.stacked c (held x) (map held bs)
+  unfolding stacked scene.stacked
+  stacked-held (make st) x bs = refl
+  stacked-held takeBack x [] = refl
+  stacked-held takeBack x (p ∷ bs) = refl
+
+  befores-held : (cs : List Call) → map held (befores s b cs) ≡ scene.befores D (surfacesIn b) cs
+  unfolding befores scene.befores
+  befores-held [] = refl
+  befores-held (c ∷ cs) =
+      go (befores-held cs) (eqb (numberOf s (bytesAfter s b cs) c) 0)
+      ∙ (λ i. cond (eqb (play.numbers s r b accepted cs c i) 0) (scene.stacked c (state-is cs i) (scene.befores D (surfacesIn b) cs)) (scene.befores D (surfacesIn b) cs))
+    where
+      go : map held (befores s b cs) ≡ scene.befores D (surfacesIn b) cs → (t : Bool)
+          → map held (cond t (stacked c (bytesAfter s b cs) (befores s b cs)) (befores s b cs))
+          ≡ cond t (scene.stacked c (held (bytesAfter s b cs)) (scene.befores D (surfacesIn b) cs)) (scene.befores D (surfacesIn b) cs)
+      go e true = stacked-held c (bytesAfter s b cs) (befores s b cs) ∙ ap (scene.stacked c (held (bytesAfter s b cs))) e
+      go e false = e
+
+  -- a list whose states are x's and more has x's state first
+  restored-of : (after : Lent) (bs : List Lent) (rest : List State) → map held bs ≡ held after ∷ rest → Restored D after bs
+  restored-of after [] rest e = absurd (let z : _≡_ {A = ℕ} 0 1 = cc in omega arith)
+  restored-of after (p ∷ bs) rest e =
+      let same : held p ≡ held after = cc in
+      (sym (ap (λ (t : State). t .surfaces) same), sym (ap (λ (t : State). sceneOf D (t .session)) same))
+
+  refusing : (cs : List Call) (c : Call) → (numberOf s (bytesAfter s b cs) c ≡ 0 → ⊥) → bytesAfter s b (c ∷ cs) ≡ bytesAfter s b cs
+  unfolding bytesAfter
+  refusing cs c f = demand1 .call-stays s (bytesAfter s b cs) c f
+
+  pub demand3 : (cs : List Call) (c : Call) → Demand3 s r b cs c
+  demand3 cs c =
+      let all = play.demand3 s r b accepted cs c in
+      let state = all .1 in
+      let claim = all .2 in
+      record {
+        number = all .0 ∙ claim .number;
+        history = ap (λ (t : State). t .session .history) state ∙ claim .history;
+        scene = ap (λ (t : State). sceneOf D (t .session)) state ∙ claim .scene;
+        surfaces = ap (λ (t : State). t .surfaces) state ∙ claim .surfaces;
+        refusing = refusing cs c;
+        restoring = λ e f. restored-of (bytesAfter s b (c ∷ cs)) (befores s b cs) _
+            (befores-held cs ∙ claim .restoring e (sym (all .0) ∙ f) ∙ ap (λ (t : State). t ∷ scene.befores D (surfacesIn b) (c ∷ cs)) (sym state));
+      }
