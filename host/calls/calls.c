@@ -189,6 +189,34 @@ static void steps(struct lent room)
     give_back(bare_masks);
 }
 
+/* The object under points of the cellar: object 1's box is at (80, 40), 32 by 56; object 2's is at (192, 72), 24 by 32, and is found while
+ * object 1, its parent, is shown. */
+static void points(struct lent room)
+{
+    struct lent session = lend(KG_SESSION_SIZE, 0), pixels = lend(WIDTH * HEIGHT, 1), masks = lend(STRIPS * HEIGHT, 2), flags = lend(3, 0);
+#define AT(x, y) kg_object_at(room.at, room.size, session.at, session.size, flags.at, flags.size, x, y)
+    expect(kg_load(BUFFERS) == KG_ACCEPTED, "the load before the points");
+    expect(kg_number(AT(80, 40)) == KG_ACCEPTED && kg_value(AT(80, 40)) == 1 && kg_value(AT(111, 95)) == 1, "the corners of a box");
+    expect(AT(79, 40) == 0 && AT(112, 95) == 0 && AT(80, 39) == 0 && AT(111, 96) == 0, "beside a box");
+    expect(AT(WIDTH, 0) == KG_POINT_OUTSIDE && AT(0, HEIGHT) == KG_POINT_OUTSIDE && AT(0xFFFFFFFFu, 0) == KG_POINT_OUTSIDE, "outside the room");
+    expect(kg_draw_at(BUFFERS, 2, 1, 10, 5) == KG_ACCEPTED, "a draw at (80, 40)");
+    expect(kg_value(AT(80, 40)) == 1, "the lower number of two boxes");
+    flags.at[0] = 1;
+    expect(AT(80, 40) == 0, "an object whose parent has state 0 isn't found");
+    expect(kg_draw_last(BUFFERS, 1, 2) == KG_ACCEPTED && kg_value(AT(80, 40)) == 2, "a parent that is shown opens, whatever its flag byte");
+    expect(AT(192, 72) == 0 && kg_value(AT(103, 71)) == 2 && AT(104, 71) == 0, "a moved box");
+    flags.size = 2;
+    expect(AT(80, 40) == KG_BUFFER_SHORT, "a flag byte for each object");
+    flags.size = 3;
+    session.at[1] = 0;
+    expect(AT(WIDTH, 0) == KG_OTHER_SESSION, "9 goes before 14");
+#undef AT
+    give_back(session);
+    give_back(pixels);
+    give_back(masks);
+    give_back(flags);
+}
+
 /* One call out of the four, as the number picks it: a take-back where it is a multiple of 8. */
 static uint32_t call_picked(struct lent room, struct lent session, struct lent pixels, struct lent masks, uint32_t pick)
 {
@@ -259,6 +287,7 @@ int main(int argc, char **argv)
     record_and_objects(room);
     load_and_write(room);
     steps(room);
+    points(room);
     list_of_steps(room);
     costume();
     give_back(room);

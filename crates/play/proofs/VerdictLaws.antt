@@ -162,7 +162,7 @@ low-rows (b ∷ t) (suc k) (literals zero) = on (planOf (suc k) b) (λ p. low-ro
 
 -- ---- tests
 
-abbrev LowTest : Test → Type 0
+abbrev pub LowTest : Test → Type 0
 LowTest Passed = Unit {0}
 LowTest (Refused n) = (1 ≤ n) × (n ≤ 8)
 
@@ -174,7 +174,7 @@ passed-of : (t : Test) → LowTest t → number t ≡ 0 → t ≡ Passed
 passed-of Passed h e = refl
 passed-of (Refused n) h e = absurd (omega arith)
 
-low-then : (a b : Test) → LowTest a → LowTest b → LowTest (andThen a b)
+pub low-then : (a b : Test) → LowTest a → LowTest b → LowTest (andThen a b)
 low-then Passed b p q = q
 low-then (Refused n) b p q = p
 
@@ -199,12 +199,12 @@ unfolding stripTest stripAt
 low-strip-test false n h s b z k = low-picture-test (stripOf h (bodyOf false n s b z k)) (low-picture h (bodyOf false n s b z k))
 low-strip-test true n h s b z k = low-rows-test (rowsAt n h s b z k) (low-rows-at n h s b z k)
 
-low-leftmost : (f : ℕ → Test) → ((k : ℕ) → LowTest (f k)) → (m k : ℕ) → LowTest (leftmost f k m)
+pub low-leftmost : (f : ℕ → Test) → ((k : ℕ) → LowTest (f k)) → (m k : ℕ) → LowTest (leftmost f k m)
 unfolding leftmost
 low-leftmost f each zero k = tt
 low-leftmost f each (suc m) k = low-then (f k) (leftmost f (k + 1) m) (each k) (low-leftmost f each m (k + 1))
 
-low-block : (mask : Bool) (n h : ℕ) (s : List ℕ) (b z : ℕ) → LowTest (blockTest mask n h s b z)
+pub low-block : (mask : Bool) (n h : ℕ) (s : List ℕ) (b z : ℕ) → LowTest (blockTest mask n h s b z)
 unfolding blockTest
 low-block mask n h s b z = on (tableRight mask n s b z)
   where
@@ -212,7 +212,7 @@ low-block mask n h s b z = on (tableRight mask n s b z)
     on true = low-leftmost (stripTest mask n h s b z) (low-strip-test mask n h s b z) n 0
     on false = omega arith
 
-low-plane : (n h : ℕ) (s : List ℕ) (f : Found) → LowTest (planeFound n h s f)
+pub low-plane : (n h : ℕ) (s : List ℕ) (f : Found) → LowTest (planeFound n h s f)
 low-plane n h s (At b z) = low-block true n h s b z
 low-plane n h s Missing = tt
 

@@ -1,3 +1,4 @@
 pub mod PointLaws
 pub mod TableLaws
 pub mod CallLaws
+pub mod LinksSuffice

@@ -4,15 +4,20 @@
 pub mod actor;
 pub mod block;
 pub mod costume;
+pub mod image;
 pub mod load;
 pub mod mask;
 pub mod object;
+pub mod painting;
+pub mod point;
 pub mod room;
+pub mod session;
+pub mod step;
 pub mod strip;
 pub mod table;
 pub mod write;
 
-/// The refusals that these calls give (document 01, "Numbered refusals").
+/// The refusals (document 01, "Numbered refusals").
 pub const TREE: u32 = 1;
 pub const NEEDED: u32 = 2;
 pub const SIZE: u32 = 3;
@@ -21,7 +26,11 @@ pub const TABLE: u32 = 5;
 pub const CODE: u32 = 6;
 pub const CUT: u32 = 7;
 pub const PAST: u32 = 8;
+pub const OTHER: u32 = 9;
+pub const FULL: u32 = 10;
 pub const NO_OBJECT: u32 = 11;
+pub const PLACE: u32 = 12;
+pub const NOTHING: u32 = 13;
 pub const OUTSIDE: u32 = 14;
 pub const ANIMATION: u32 = 15;
 
@@ -40,3 +49,5 @@ pub fn sizes_ok(w: usize, h: usize, n: usize) -> bool {
 
 #[cfg(test)]
 mod rows;
+#[cfg(test)]
+mod session_rows;

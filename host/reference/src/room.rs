@@ -29,7 +29,7 @@ pub struct Painted {
 }
 
 /// A needed block with its fixed fields, or refusal 2.
-fn needed(bytes: &[u8], parent: Block, tag: &[u8], fields: usize) -> Result<Block, u32> {
+pub fn needed(bytes: &[u8], parent: Block, tag: &[u8], fields: usize) -> Result<Block, u32> {
     first(bytes, parent, tag).filter(|block| block.payload(bytes).len() >= fields).ok_or(NEEDED)
 }
 

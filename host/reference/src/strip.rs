@@ -33,6 +33,11 @@ fn code(byte: u8) -> Option<Code> {
     Some(Code { method, vertical, bits: (byte - subtracted) as u32 })
 }
 
+/// The codes that are called transparent.
+pub fn is_transparent(code: u8) -> bool {
+    matches!(code, 0x22..=0x26 | 0x2C..=0x30 | 0x54..=0x58 | 0x68..=0x6C)
+}
+
 /// "bits read from bit 0 up; an n-bit number comes low bit first"; 7 where they run out.
 struct Bits<'a> {
     bytes: &'a [u8],

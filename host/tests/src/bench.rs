@@ -5,10 +5,27 @@ use crate::rng::Rng;
 use std::collections::BTreeMap;
 use std::sync::atomic::{AtomicU64, AtomicUsize, Ordering::Relaxed};
 
-pub const CALLS: [&str; 12] =
-    ["record", "load", "header", "name", "name_number", "hidden", "stamp", "start", "tick", "limb_draws", "write_smap", "write_plane"];
-/// The numbers that a full run must have reached.
-const NUMBERS: [u32; 12] = [0, 1, 2, 3, 4, 5, 6, 7, 8, 11, 14, 15];
+pub const CALLS: [&str; 17] = [
+    "record",
+    "load",
+    "draw_last",
+    "draw_at",
+    "hide",
+    "take_back",
+    "object_at",
+    "header",
+    "name",
+    "name_number",
+    "hidden",
+    "stamp",
+    "start",
+    "tick",
+    "limb_draws",
+    "write_smap",
+    "write_plane",
+];
+/// A full run must have reached them all.
+const NUMBERS: [u32; 16] = [0, 1, 2, 3, 4, 5, 6, 7, 8, 9, 10, 11, 12, 13, 14, 15];
 
 /// What runs now, for the signal handler.
 static SEED: AtomicU64 = AtomicU64::new(0);

@@ -1,7 +1,7 @@
 //! The C interface (include/kildegrom.h), each call beside the reference's.
 
 use crate::bench::Bench;
-use reference::{actor, costume, load as loads, object, write};
+use reference::{actor, costume, load as loads, object, session as sessions, write};
 
 extern "C" {
     fn kg_record(room: *const u8, room_size: usize, record: *mut u8, record_size: usize) -> u32;
@@ -15,6 +15,63 @@ extern "C" {
         masks: *mut u8,
         masks_size: usize,
     ) -> u32;
+    fn kg_draw_last(
+        room: *const u8,
+        room_size: usize,
+        session: *mut u8,
+        session_size: usize,
+        pixels: *mut u8,
+        pixels_size: usize,
+        masks: *mut u8,
+        masks_size: usize,
+        object: u32,
+        state: u32,
+    ) -> u32;
+    fn kg_draw_at(
+        room: *const u8,
+        room_size: usize,
+        session: *mut u8,
+        session_size: usize,
+        pixels: *mut u8,
+        pixels_size: usize,
+        masks: *mut u8,
+        masks_size: usize,
+        object: u32,
+        state: u32,
+        a: u32,
+        b: u32,
+    ) -> u32;
+    fn kg_hide(
+        room: *const u8,
+        room_size: usize,
+        session: *mut u8,
+        session_size: usize,
+        pixels: *mut u8,
+        pixels_size: usize,
+        masks: *mut u8,
+        masks_size: usize,
+        object: u32,
+    ) -> u32;
+    fn kg_take_back(
+        room: *const u8,
+        room_size: usize,
+        session: *mut u8,
+        session_size: usize,
+        pixels: *mut u8,
+        pixels_size: usize,
+        masks: *mut u8,
+        masks_size: usize,
+    ) -> u32;
+    fn kg_object_at(
+        room: *const u8,
+        room_size: usize,
+        session: *const u8,
+        session_size: usize,
+        flags: *const u8,
+        flags_size: usize,
+        x: u32,
+        y: u32,
+    ) -> u64;
     fn kg_header(room: *const u8, room_size: usize, header: *mut u8, header_size: usize, object: u32) -> u32;
     fn kg_name(room: *const u8, room_size: usize, object: u32) -> u64;
     fn kg_name_number(room: *const u8, room_size: usize, object: u32) -> u32;
@@ -69,16 +126,81 @@ pub fn record(b: &mut Bench, room: &[u8], record: &[u8]) {
     b.case("record", &[], &[("room", room), ("record", record)], library, |after| number(loads::record(room, &mut after[1])));
 }
 
-/// The load: its number, pixels and masks.
-pub fn load(b: &mut Bench, room: &[u8], session: &[u8], pixels: &[u8], masks: &[u8]) -> (u32, Vec<u8>, Vec<u8>) {
+/// The load: its number, and session, pixels and masks afterwards.
+pub fn load(b: &mut Bench, room: &[u8], session: &[u8], pixels: &[u8], masks: &[u8]) -> (u32, [Vec<u8>; 3]) {
     let library = |p: &[*mut u8]| unsafe { kg_load(p[0], room.len(), p[1], session.len(), p[2], pixels.len(), p[3], masks.len()) as u64 };
     let buffers = [("room", room), ("session", session), ("pixels", pixels), ("masks", masks)];
-    let (answer, _, mut after) = b.case("load", &[], &buffers, library, |after| {
+    let (answer, _, after) = b.case("load", &[], &buffers, library, |after| {
         let [_, session, pixels, masks] = after else { unreachable!() };
         number(loads::load(room, session, pixels, masks))
     });
-    let masks = after.pop().unwrap();
-    (answer, after.pop().unwrap(), masks)
+    (answer, surfaces(after))
+}
+
+fn surfaces(after: Vec<Vec<u8>>) -> [Vec<u8>; 3] {
+    let [_, session, pixels, masks] = <[Vec<u8>; 4]>::try_from(after).expect("room, session, pixels, masks");
+    [session, pixels, masks]
+}
+
+/// A call that changes the session, with its numbers as a stranger hands them over.
+#[derive(Clone, Copy, Debug)]
+pub enum Turn {
+    DrawLast { object: u32, state: u32 },
+    DrawAt { object: u32, state: u32, a: u32, b: u32 },
+    Hide { object: u32 },
+    TakeBack,
+}
+
+impl Turn {
+    pub fn name(self) -> &'static str {
+        match self {
+            Turn::DrawLast { .. } => "draw_last",
+            Turn::DrawAt { .. } => "draw_at",
+            Turn::Hide { .. } => "hide",
+            Turn::TakeBack => "take_back",
+        }
+    }
+
+    fn numbers(self) -> Vec<i64> {
+        let numbers = match self {
+            Turn::DrawLast { object, state } => vec![object, state],
+            Turn::DrawAt { object, state, a, b } => vec![object, state, a, b],
+            Turn::Hide { object } => vec![object],
+            Turn::TakeBack => vec![],
+        };
+        numbers.into_iter().map(i64::from).collect()
+    }
+}
+
+/// A draw, hide or take-back on `lent`, the session, pixels and masks: its number and these afterwards.
+pub fn turn(b: &mut Bench, turn: Turn, room: &[u8], lent: &[Vec<u8>; 3]) -> (u32, [Vec<u8>; 3]) {
+    let (size, [s, x, m]) = (room.len(), [lent[0].len(), lent[1].len(), lent[2].len()]);
+    let library = |p: &[*mut u8]| unsafe {
+        match turn {
+            Turn::DrawLast { object, state } => kg_draw_last(p[0], size, p[1], s, p[2], x, p[3], m, object, state) as u64,
+            Turn::DrawAt { object, state, a, b } => kg_draw_at(p[0], size, p[1], s, p[2], x, p[3], m, object, state, a, b) as u64,
+            Turn::Hide { object } => kg_hide(p[0], size, p[1], s, p[2], x, p[3], m, object) as u64,
+            Turn::TakeBack => kg_take_back(p[0], size, p[1], s, p[2], x, p[3], m) as u64,
+        }
+    };
+    let buffers: [(&str, &[u8]); 4] = [("room", room), ("session", &lent[0]), ("pixels", &lent[1]), ("masks", &lent[2])];
+    let (answer, _, after) = b.case(turn.name(), &turn.numbers(), &buffers, library, |after| {
+        let [_, session, pixels, masks] = after else { unreachable!() };
+        number(match turn {
+            Turn::DrawLast { object, state } => sessions::draw_last(room, session, pixels, masks, object, state),
+            Turn::DrawAt { object, state, a, b } => sessions::draw_at(room, session, pixels, masks, [object, state, a, b]),
+            Turn::Hide { object } => sessions::hide(room, session, pixels, masks, object),
+            Turn::TakeBack => sessions::take_back(room, session, pixels, masks),
+        })
+    });
+    (answer, surfaces(after))
+}
+
+pub fn object_at(b: &mut Bench, room: &[u8], session: &[u8], flags: &[u8], x: u32, y: u32) {
+    let library = |p: &[*mut u8]| unsafe { kg_object_at(p[0], room.len(), p[1], session.len(), p[2], flags.len(), x, y) };
+    let buffers = [("room", room), ("session", session), ("flags", flags)];
+    let numbers = [x, y].map(i64::from);
+    b.case("object_at", &numbers, &buffers, library, |_| word(reference::point::object_at(room, session, flags, x, y)));
 }
 
 pub fn header(b: &mut Bench, room: &[u8], header: &[u8], which: u32) {

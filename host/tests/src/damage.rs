@@ -154,7 +154,12 @@ fn strips<'a>(r: &mut Rng, plan: &'a mut Plan) -> Option<&'a mut Strips> {
 
 /// 5: offsets and tables.
 pub fn table(r: &mut Rng, plan: &mut Plan) {
-    let Some(strips) = strips(r, plan) else { return };
+    if let Some(strips) = strips(r, plan) {
+        wrong_table(r, strips);
+    }
+}
+
+pub fn wrong_table(r: &mut Rng, strips: &mut Strips) {
     let (lowest, size, offsets, count) = (strips.lowest(), 8 + strips.payload().len(), strips.offsets(), strips.bodies.len());
     if r.once_in(5) {
         let table = strips.width * count;
@@ -195,7 +200,12 @@ pub fn table(r: &mut Rng, plan: &mut Plan) {
 
 /// 6, 7, 8: bodies.
 pub fn body(r: &mut Rng, plan: &mut Plan) {
-    let Some(strips) = strips(r, plan) else { return };
+    if let Some(strips) = strips(r, plan) {
+        wrong_body(r, strips);
+    }
+}
+
+pub fn wrong_body(r: &mut Rng, strips: &mut Strips) {
     let h = strips.h;
     for _ in 0..r.range(1, 2) {
         let strip = r.below(strips.bodies.len());

@@ -12,9 +12,13 @@ mod calls;
 mod costume_scenes;
 mod damage;
 mod lent;
+mod maker;
+mod point_scenes;
 mod rng;
 mod room_scenes;
 mod rooms;
+mod session_scenes;
+mod stages;
 mod strips;
 mod tree;
 mod writer_scenes;
@@ -22,13 +26,13 @@ mod writer_scenes;
 use bench::Bench;
 use std::time::{Duration, Instant, SystemTime};
 
-/// About 60 seconds on one core.
-const SEEDS: u64 = 200_000;
+/// About 90 seconds on one core.
+const SEEDS: u64 = 100_000;
 
 fn run(b: &mut Bench, seed: u64) {
     let mut r = b.scene(seed);
     let r = &mut r;
-    match seed % 32 {
+    match seed % 40 {
         0..=6 => room_scenes::good(b, r),
         7..=12 => room_scenes::damaged(b, r),
         13..=15 => room_scenes::order(b, r),
@@ -45,7 +49,12 @@ fn run(b: &mut Bench, seed: u64) {
         25 | 26 => costume_scenes::arbitrary(b, r),
         27 => costume_scenes::playing(b, r),
         28 | 29 => writer_scenes::pictures(b, r),
-        _ => writer_scenes::planes(b, r),
+        30 | 31 => writer_scenes::planes(b, r),
+        32 if r.once_in(4) => session_scenes::long_list(b, r),
+        32..=34 => session_scenes::list(b, r),
+        35 | 36 => session_scenes::strangers(b, r),
+        37 | 38 => session_scenes::changed_rooms(b, r),
+        _ => point_scenes::points(b, r),
     }
 }
 

@@ -5,7 +5,7 @@ use crate::rng::Rng;
 use crate::rooms::{self, Plan};
 use crate::strips::{any_code, mask_body, pixel_body, Fault, Strips};
 use crate::tree::{container, leaf};
-use crate::{calls, damage};
+use crate::{calls, damage, session_scenes};
 
 /// A buffer of about `need` bytes that holds anything: exactly as long, one shorter, longer or empty.
 pub fn lent(r: &mut Rng, need: usize) -> Vec<u8> {
@@ -188,6 +188,7 @@ pub fn given(b: &mut Bench, room: &[u8]) {
         calls::header(b, room, &[1; 16], object);
         calls::name(b, room, object);
     }
+    session_scenes::given(b, room);
 }
 
 /// The room's largest size, and one byte more.

@@ -64,7 +64,7 @@ fn harmless(r: &mut Rng, depth: usize) -> Node {
     node
 }
 
-fn with_extra(r: &mut Rng, mut bytes: Vec<u8>) -> Vec<u8> {
+pub fn with_extra(r: &mut Rng, mut bytes: Vec<u8>) -> Vec<u8> {
     if r.once_in(4) {
         bytes.extend(some_bytes(r, 5));
     }
@@ -132,11 +132,11 @@ fn obim(r: &mut Rng, id: u16) -> Node {
     container(b"OBIM", kids)
 }
 
-fn u16s(numbers: &[usize]) -> Vec<u8> {
+pub fn u16s(numbers: &[usize]) -> Vec<u8> {
     numbers.iter().flat_map(|number| (*number as u16).to_le_bytes()).collect()
 }
 
-fn image(r: &mut Rng, w: usize, h: usize, n: usize) -> Node {
+pub fn image(r: &mut Rng, w: usize, h: usize, n: usize) -> Node {
     let strips = |tag: [u8; 4], strips| Node { tag, body: Body::Strips(strips), stray: vec![], size: None };
     let mut kids = vec![strips(*b"SMAP", strips::smap(r, w, h))];
     for k in 1..=4u8 {

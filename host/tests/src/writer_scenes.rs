@@ -86,7 +86,7 @@ pub fn pictures(b: &mut Bench, r: &mut Rng) {
         blocks.push(calls::write_plane(b, plane, &lent_long(r, need), wide, high, k));
     }
     let room = around(w, h, &blocks);
-    let (number, read, masks) = calls::load(b, &room, &[7; 450], &vec![9; w * h], &vec![9; n * (w / 8) * h]);
+    let (number, [_, read, masks]) = calls::load(b, &room, &[7; 450], &vec![9; w * h], &vec![9; n * (w / 8) * h]);
     if number != 0 || read != pixels || masks != planes.concat() {
         b.differ("load", "doesn't read back what was written", &format!("room of {w} by {h}, {n} planes: number {number}"));
     }

@@ -1,0 +1,4 @@
+pub mod CodedLaws
+pub mod RunLaws
+pub mod HeldLaws
+pub mod EndLaws

@@ -1,0 +1,92 @@
+// Calls read from bytes, and played in order.
+ghost use mathlib.Core.Path.{_≡_};
+ghost use Prim.Native.Nat.{_+_, _*_, _≤_};
+ghost use lib.ListN.{length};
+ghost use Rattle.number.specs.Number.{le32};
+ghost use Rattle.scene.specs.Session.{make};
+ghost use Rattle.play.specs.Bytes.{afterCall, numberOf};
+ghost use Rattle.runner.specs.Coded.{callOf, callAt, callsOf, callCount};
+ghost use Rattle.runner.specs.Run.{lentOf, played, playedNumber, putFirst};
+use number::read_le32;
+use play::calls::act;
+use play::calls::take_back;
+use scene::Place;
+use scene::Step;
+
+// One of a call's five numbers.
+fn field(calls: &[u8], at: usize) -> u32
+    requires { ⌜ at + 4 ≤ length (now calls) ⌝ }
+    ensures { λ r. ⌜ r ≡ le32 (now (calls .entry)) at ⌝ }
+{
+    read_le32(calls, at) as u32
+}
+
+// The step in the 20 bytes from `at` on, whose kind is known to be 0, 1 or 2.
+fn step_from(calls: &[u8], at: usize, kind: u32) -> Step
+    requires { ⌜ (at + 20 ≤ length (now calls)) × (kind ≤ 2) ⌝ }
+    ensures { λ r. ⌜ make r ≡ callOf kind (le32 (now (calls .entry)) (at + 4)) (le32 (now (calls .entry)) (at + 8)) (le32 (now (calls .entry)) (at + 12)) (le32 (now (calls .entry)) (at + 16)) ⌝ }
+{
+    let object = field(calls, at + 4);
+    match kind {
+        0 => Step::Hide(object),
+        1 => Step::Draw(object, field(calls, at + 8), Place::Last),
+        _ => {
+            let state = field(calls, at + 8);
+            let a = field(calls, at + 12);
+            let b = field(calls, at + 16);
+            Step::Draw(object, state, Place::Strip(a, b))
+        }
+    }
+}
+
+// Plays call i: its number.
+fn play_one(
+    room: &[u8],
+    session: &mut [u8],
+    pixels: &mut [u8],
+    masks: &mut [u8],
+    calls: &[u8],
+    i: usize,
+) -> u8
+    requires { ⌜ 20 * i + 20 ≤ length (now calls) ⌝ }
+    ensures { λ n. ⌜ n ≡ numberOf (now (room .entry)) (lentOf (now (session .entry)) (now (pixels .entry)) (now (masks .entry))) (callAt (now (calls .entry)) i) ⌝ }
+    ensures { λ _. ⌜ lentOf (now (session .exit)) (now (pixels .exit)) (now (masks .exit)) ≡ afterCall (now (room .entry)) (lentOf (now (session .entry)) (now (pixels .entry)) (now (masks .entry))) (callAt (now (calls .entry)) i) ⌝ }
+{
+    let at = 20 * i;
+    let kind = field(calls, at);
+    if 2 < kind {
+        return take_back(room, session, pixels, masks) as u8;
+    }
+    let step = step_from(calls, at, kind);
+    act(room, session, pixels, masks, step) as u8
+}
+
+// How many calls are played: as many as `calls` has whole records and `numbers` has bytes.
+pub fn call_count(calls: &[u8], numbers: &[u8]) -> usize
+    ensures { λ r. ⌜ r ≡ callCount (now (calls .entry)) (now (numbers .entry)) ⌝ }
+{
+    let whole = calls.len() / 20;
+    let bytes = numbers.len();
+    if whole < bytes { whole } else { bytes }
+}
+
+// Plays the calls on bytes that hold a session, and keeps their numbers.
+pub fn play_all(
+    room: &[u8],
+    session: &mut [u8],
+    pixels: &mut [u8],
+    masks: &mut [u8],
+    calls: &[u8],
+    numbers: &mut [u8],
+)
+    ensures { λ _. ⌜ lentOf (now (session .exit)) (now (pixels .exit)) (now (masks .exit)) ≡ played (now (room .entry)) (lentOf (now (session .entry)) (now (pixels .entry)) (now (masks .entry))) (callsOf (now (calls .entry)) (callCount (now (calls .entry)) (now (numbers .entry)))) ⌝ }
+    ensures { λ _. ⌜ now (numbers .exit) ≡ putFirst (playedNumber (now (room .entry)) (lentOf (now (session .entry)) (now (pixels .entry)) (now (masks .entry))) (now (calls .entry))) (callCount (now (calls .entry)) (now (numbers .entry))) (now (numbers .entry)) ⌝ }
+{
+    let n = call_count(calls, &numbers[..]);
+    let mut i: usize = 0;
+    while i < n {
+        let number = play_one(room, session, pixels, masks, calls, i);
+        numbers[i] = number;
+        i += 1;
+    }
+}
