@@ -4,7 +4,7 @@ use mathlib.Core.Path.{_≡_}
 use mathlib.Core.Bool.{Bool, true, false}
 use mathlib.Core.List.{List, [], _∷_, _++_}
 use Prim.Native.Nat.{ℕ, zero, suc, _+_, _*_, _/_, _%_, _^_, _≤_, _<_}
-use lib.ListN.{drop}
+use lib.ListN.{drop, getD}
 use lib.Dec.{eqb}
 use Rattle.bits.specs.declared.Cursor.{Cursor}
 use Rattle.bits.specs.declared.Bit.{Bit}
@@ -40,6 +40,10 @@ abbrev pub pull : ℕ → List Bool → Pull
 pull zero l = got 0 l
 pull (suc n) [] = short
 pull (suc n) (b ∷ l) = below b (pull n l)
+
+-- four bytes, the first lowest
+abbrev pub wordAt : List ℕ → ℕ → ℕ
+wordAt s at = getD s at 0 + (getD s (at + 1) 0 + (getD s (at + 2) 0 + getD s (at + 3) 0 * 256) * 256) * 256
 
 -- the bits that a cursor has not handed out
 unfoldable pub rest : List ℕ → Cursor → List Bool

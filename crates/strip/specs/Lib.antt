@@ -1,2 +1,4 @@
 pub mod Strip
 pub mod Picture
+pub mod Tally
+pub mod Look

@@ -2,6 +2,8 @@
 mod codes;
 mod operations;
 mod placing;
+mod rows;
+pub mod test;
 
 ghost use mathlib.Core.Path.{_≡_};
 ghost use Prim.Native.Nat.{_*_, _≤_};
@@ -29,6 +31,20 @@ pub enum Next {
 pub enum Made {
     All,
     Refused(u8),
+}
+
+// A place in a body: p bits and i pixels are behind it, and v holds the bits ahead of it, lowest first.
+pub struct Ahead {
+    pub p: usize,
+    pub i: usize,
+    pub v: u64,
+}
+
+// What a step of a test comes to: a place further on, a refusal, or no step.
+pub enum Turn {
+    On(Ahead),
+    Refuse(u8),
+    Stay,
 }
 
 // What a strip's code says of it.

@@ -4,6 +4,7 @@ use Prim.Native.Nat.{ℕ, zero, suc, _+_}
 use native.Mathlib.Omega.{arith}
 use mathlib.Core.Bool.{Bool}
 use mathlib.Core.List.{List}
+use Rattle.strip.specs.Tally.{testOf}
 use Rattle.strip.specs.Strip.{Strip, Filled}
 use Rattle.strip.specs.Picture.{Picture, refusal, picture, answerOf}
 use Rattle.strip.specs.declared.Made.{Made}
@@ -31,9 +32,13 @@ module _ (test : ℕ → Test) where
     leftmost-stop n h = rw (more, h)
 
 -- the test of a strip, from the answer of reading it
-pub drawn-passes : (p : Picture) (clear : Bool) → answerOf p ≡ Drawn clear → Passed ≡ pictureTest p
-drawn-passes (refusal n) clear h = absurd (let z : _≡_ {A = ℕ} 0 1 = cc in omega arith)
-drawn-passes (picture t values) clear h = refl
+pub tested-passes : (p : Picture) → testOf p ≡ All → Passed ≡ pictureTest p
+tested-passes (refusal n) h = absurd (let z : _≡_ {A = ℕ} 0 1 = cc in omega arith)
+tested-passes (picture t values) h = refl
+
+pub tested-stops : (p : Picture) (n : ℕ) → testOf p ≡ made.Refused n → Refused n ≡ pictureTest p
+tested-stops (refusal m) n h = ap Refused (let z : n ≡ m = cc in z)
+tested-stops (picture t values) n h = absurd (let z : _≡_ {A = ℕ} 0 1 = cc in omega arith)
 
 pub refused-stops : (p : Picture) (n : ℕ) → answerOf p ≡ answer.Refused n → Refused n ≡ pictureTest p
 refused-stops (refusal m) n h = ap Refused (let z : n ≡ m = cc in z)

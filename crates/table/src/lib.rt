@@ -147,10 +147,9 @@ fn test_picture(room: &[u8], n: usize, h: usize, b: usize, z: usize, k: usize) -
     requires { ⌜ tableRight false n (now room) b z ≡ true ⌝ }
     ensures { λ r. ⌜ r ≡ stripTest false n h (now (room .entry)) b z k ⌝ }
 {
-    let mut scratch = [0u8; 1600];
-    match read_strip(room, n, h, b, z, k, &mut scratch) {
-        Answer::Drawn { clear: _ } => Test::Passed,
-        Answer::Refused(number) => Test::Refused(number),
+    match strip::test::test_strip(strip_body(room, false, n, b, z, k), h) {
+        Made::All => Test::Passed,
+        Made::Refused(number) => Test::Refused(number),
     }
 }
 
