@@ -64,7 +64,7 @@ fn looks(rows: &[u16], w: usize, a: Ahead) -> Ahead
     past(rows, w, two)
 }
 
-// A run at the front of the bits v, after which i pixels are behind.
+// Past a run at the front of the bits v, where i pixels are behind it.
 fn run_ahead(total: usize, p: usize, i: usize, v: u64) -> Turn
     requires { ⌜ (i + 24 ≤ total) × (total ≤ 1600) × (p < 1000000000) ⌝ }
     ensures { λ r. ⌜ ((w : ℕ) (s : List ℕ) (b : ℕ) → Seen s (record { p = p; i = i; v = v }) b → 13 ≤ b → v % 32 ≡ 19 → Turned true w s total p i r) ⌝ }
