@@ -1,2 +1,3 @@
 pub mod BitLaws
-pub mod ViewLaws
+pub mod CursorLaws
+pub mod ZeroLaws

@@ -3,14 +3,10 @@
 use mathlib.Core.Path.{_≡_}
 use mathlib.Core.Bool.{Bool, true, false}
 use mathlib.Core.List.{List, [], _∷_, _++_}
-use Prim.Native.Nat.{ℕ, zero, suc, _+_, _*_, _/_, _%_, _^_, _≤_, _<_}
-use lib.ListN.{drop, getD}
+use Prim.Native.Nat.{ℕ, zero, suc, _+_, _-_, _*_, _/_, _%_, _^_, _≤_, _<_}
+use lib.ListN.{length, drop, getD}
 use lib.Dec.{eqb}
 use Rattle.bits.specs.declared.Cursor.{Cursor}
-use Rattle.bits.specs.declared.Bit.{Bit}
-use Rattle.bits.specs.declared.Bit.the-variants.{Zero, One, End}
-use Rattle.bits.specs.declared.Bits.{Bits}
-use Rattle.bits.specs.declared.Bits.the-variants.{Value, Short}
 
 -- the lowest n bits of x, from bit 0 up
 unfoldable pub lowBits : ℕ → ℕ → List Bool
@@ -49,18 +45,16 @@ wordAt s at = getD s at 0 + (getD s (at + 1) 0 + (getD s (at + 2) 0 + getD s (at
 unfoldable pub rest : List ℕ → Cursor → List Bool
 rest s c = lowBits (c .have) (c .hand) ++ bitsOf (drop (c .at) s)
 
--- a cursor that the reader made: nothing above the bits in hand
-pub record Held (c : Cursor) : Type 0 where
-  pub few : c .have ≤ 7
+-- a cursor over the body s, as the reader makes it: nothing above the bits in hand
+pub record Held (s : List ℕ) (c : Cursor) : Type 0 where
+  pub few : c .have ≤ 63
   pub low : c .hand < 2 ^ c .have
+  pub inside : c .at ≤ length s
 
--- the answer of `bit` where the bits l are left
-abbrev pub Popped : List ℕ → List Bool → Bit → Type 0
-Popped s l (Zero c) = (l ≡ false ∷ rest s c) × Held c
-Popped s l (One c) = (l ≡ true ∷ rest s c) × Held c
-Popped s l End = l ≡ []
+-- at least 56 bits are in hand, or all that are left
+abbrev pub Full : List ℕ → Cursor → Type 0
+Full s c = c .have < 56 → length s ≤ c .at
 
--- the answer of `bits` where p is to be read
-abbrev pub Pulled : List ℕ → Pull → Bits → Type 0
-Pulled s p (Value v c) = (p ≡ got v (rest s c)) × Held c
-Pulled s p Short = p ≡ short
+-- the cursor after n bits, which are in hand
+abbrev pub moved : ℕ → Cursor → Cursor
+moved n c = record { at = c .at; have = c .have - n; hand = c .hand / 2 ^ n }

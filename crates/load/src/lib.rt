@@ -19,7 +19,7 @@ pub fn empty_session(session: &mut [u8])
     requires { ⌜ 450 ≤ length (now session) ⌝ }
     ensures { λ _. ⌜ now (session .exit) ≡ emptied (now (session .entry)) ⌝ }
 {
-    plane::fill(session, 0, 450, 0);
+    strip::filling::fill(session, 0, 450, 0);
 }
 
 // Paints the background of a room that passes the test.

@@ -6,8 +6,8 @@ use native.Mathlib.Nat.{not-suc-le-zero}
 use native.Mathlib.Numerals.{add-one, sub-one}
 use native.Mathlib.Omega.{arith}
 use borrow.Author.Tests.{lt-ltb, le-ltb}
-use lib.ListN.{length, take, drop, set, replicate, getD, replicate-append-replicate}
-use lib.Seq.{take-suc-set, drop-cons, drop-drop}
+use lib.ListN.{length, take, drop, replicate, getD}
+use lib.Seq.{drop-cons}
 use Rattle.strip.specs.declared.Made.the-variants.{All}
 use Rattle.strip.specs.Strip.{Strip, refused, pixels, onto, glue, Filled}
 use Rattle.plane.specs.Mask.{Owed, literals, copies, Plan, past, owe, planOf, rowsOf}
@@ -67,16 +67,6 @@ pub from-at : (s : List ℕ) (at : ℕ) → at < length s → drop at s ≡ getD
 from-at s at h = rw (add-one, drop-cons s at 0 h)
 
 -- one more copy
-pub fill-store : (out d : List ℕ) (from k b : ℕ) → from + k < length out → take (from + k) out ≡ take from d ++ replicate k b
-    → take (from + (k + 1)) (set out (from + k) b) ≡ take from d ++ replicate (k + 1) b
-fill-store out d from k b h e =
-    let s : from + (k + 1) ≡ suc (from + k) = omega arith in
-    ap (λ (m : ℕ). take m (set out (from + k) b)) s ∙ take-suc-set {A = ℕ} out (from + k) b h ∙ ap (λ (p : List ℕ). p ++ (b ∷ [])) e
-    ∙ append-assoc (take from d) (replicate k b) (b ∷ []) ∙ ap (λ (p : List ℕ). take from d ++ p) (replicate-append-replicate k 1 b)
-
-pub drop-more : (out d : List ℕ) (i n : ℕ) → drop i out ≡ drop i d → drop (i + n) out ≡ drop (i + n) d
-drop-more out d i n e = sym (drop-drop n i out) ∙ ap (drop n) e ∙ drop-drop n i d
-
 pub rows-all : (t : List ℕ) (p : Owed) (i h : ℕ) (out d : List ℕ) (x : Strip) → i ≡ h → x ≡ glue (take i out) (rowsOf t (h - i) p) → drop i out ≡ drop i d → Filled h x d out All
 rows-all t p i h out d x e f g = (
   f

@@ -6,18 +6,7 @@ ghost use lib.ListN.{length, take, drop, replicate};
 ghost use Rattle.strip.specs.Strip.{Filled};
 ghost use Rattle.plane.specs.Mask.{rowsOf, literals};
 use strip::Made;
-
-// n copies of b into `out` from `from` on.
-pub fn fill(out: &mut [u8], from: usize, n: usize, b: u8)
-    requires { ⌜ from + n ≤ length (now out) ⌝ }
-    ensures { λ _. ⌜ (take (from + n) (now (out .exit)) ≡ take from (now (out .entry)) ++ replicate n b) × (drop (from + n) (now (out .exit)) ≡ drop (from + n) (now (out .entry))) ⌝ }
-{
-    let mut k: usize = 0;
-    while k < n {
-        out[from + k] = b;
-        k += 1;
-    }
-}
+use strip::filling::fill;
 
 // One mask strip body of h rows into the first h bytes of `out`.
 pub fn mask_rows(body: &[u8], h: usize, out: &mut [u8]) -> Made

@@ -18,12 +18,12 @@ use block::Found;
 use image::state::image_drawable;
 use image::state::state_block;
 use image::test::test_image;
-use plane::fill;
 use room::Room;
 use scene::Step;
 use session::bytes::count;
 use session::bytes::step_at;
 use session::tables::wide;
+use strip::filling::fill;
 use table::Test;
 
 // What a cell holds before its image is judged: no verdict is 255.

@@ -3,7 +3,7 @@ use mathlib.Core.Path.{_≡_, refl, sym, ap, ap₂, _∙_, subst}
 use mathlib.Core.Bool.{Bool, true, false}
 use mathlib.Core.List.{List, [], _∷_, _++_}
 use Prim.Native.Nat.{ℕ, zero, suc, _+_, _-_, _*_, _/_, _%_, _≤_, _<_}
-use native.Mathlib.Nat.{mul-le-mul-right, le-of-eq}
+use native.Mathlib.Nat.{mul-le-mul-right, add-mul, le-of-eq}
 use native.Mathlib.Numerals.{add-one}
 use native.Mathlib.Omega.{arith}
 use borrow.Author.Tests.{ltb-false, leb-true, lt-ltb, le-ltb}
@@ -15,7 +15,8 @@ use Rattle.strip.specs.declared.Answer.the-variants.{Drawn, Refused}
 use Rattle.strip.specs.declared.Made.{Made}
 use Rattle.strip.specs.declared.Kind.{Kind}
 use Rattle.bits.specs.Bits.{bitsOf}
-use Rattle.strip.specs.Strip.{Strip, decode, Filled}
+use Rattle.strip.specs.Strip.{Strip, decode}
+use Rattle.strip.specs.Place.{Drew}
 use Rattle.strip.specs.Picture.{notBelow, fiveFrom, sourceOf, upTo, over, Width, placed, Picture, refusal, picture, rawOf, codedOf, shown, stripOf, byKind, kindOf, Answered}
 
 pub five-from : (low code : ℕ) → fiveFrom low code ≡ true → (low ≤ code) × (code ≤ low + 4)
@@ -32,10 +33,22 @@ five-from low code e = go (ltb code low) (leb (code - low) 4) refl refl e
         let k = leb-true (code - low) 4 (eq ∙ e) in
         omega arith
 
-pub source-below : (h j : ℕ) → j < 8 * h → j % 8 * h + j / 8 < 8 * h
-source-below h j lt =
-    let m : j % 8 * h ≤ 7 * h = mul-le-mul-right h (omega arith) in
+-- a strip made by columns has pixel c of row y after c columns and y rows
+pub source-column : (h y c : ℕ) → c < 8 → sourceOf true h (8 * y + c) ≡ c * h + y
+source-column h y c lt =
+    let column : (8 * y + c) % 8 ≡ c = omega arith in
+    let row : (8 * y + c) / 8 ≡ y = omega arith in
+    ap₂ (λ (m q : ℕ). m * h + q) column row
+
+pub column-below : (h y c : ℕ) → c < 8 → y < h → c * h + y < 8 * h
+column-below h y c lt below =
+    let m : c * h ≤ 7 * h = mul-le-mul-right h (omega arith) in
     omega arith
+
+pub next-column : (h y c at : ℕ) → at ≡ c * h + y → at + h ≡ (c + 1) * h + y
+next-column h y c at e =
+    let m : (c + 1) * h ≡ c * h + 1 * h = add-mul c 1 h in
+    omega (arith, m)
 
 pub length-upTo : (f : ℕ → ℕ) (n : ℕ) → length (upTo f n) ≡ n
 length-upTo f zero = refl
@@ -50,6 +63,15 @@ unfolding over
 over-of xs out d n len front back =
     sym (ap (λ (k : ℕ). xs ++ drop k d) len ∙ ap (λ (t : List ℕ). xs ++ t) (sym back) ∙ ap (λ (t : List ℕ). t ++ drop n out) (sym front) ∙ take-append-drop n out)
 
+-- the pixel that stands at j, counted by rows
+abbrev pub pixelAt : Bool → ℕ → List ℕ → ℕ → ℕ
+pixelAt vertical h xs j = getD xs (sourceOf vertical h j) 0
+
+pub placed-over : (vertical : Bool) (h : ℕ) (xs out d : List ℕ) → take (8 * h) out ≡ upTo (pixelAt vertical h xs) (8 * h) → drop (8 * h) out ≡ drop (8 * h) d
+    → out ≡ over (placed vertical h xs) d
+unfolding placed
+placed-over vertical h xs out d front back = over-of _ out d (8 * h) (length-upTo (pixelAt vertical h xs) (8 * h)) front back
+
 -- ---- answers
 
 pub answered-no : (x : Picture) (d : List ℕ) (n : ℕ) → x ≡ refusal n → Answered x d d (Refused n)
@@ -61,8 +83,8 @@ answered-yes x clear px d out e f = subst (λ q. Answered q d out (Drawn clear))
 pub answered-from : (d out : List ℕ) (r : Answer) {x y : Picture} → x ≡ y → Answered y d out r → Answered x d out r
 answered-from d out r e h = subst (λ q. Answered q d out r) (sym e) h
 
-pub told-made : (n : ℕ) (x : Strip) (d out : List ℕ) {r r′ : Made} → r ≡ r′ → Filled n x d out r → Filled n x d out r′
-told-made n x d out e h = subst (λ q. Filled n x d out q) e h
+pub told-drew : (n : ℕ) (x : Strip) (out : List ℕ) {r r′ : Made} → r ≡ r′ → Drew n x out r → Drew n x out r′
+told-drew n x out e h = subst (λ q. Drew n x out q) e h
 
 pub told-width : {r r′ : Kind} → r ≡ r′ → Width r → Width r′
 told-width e h = subst (λ q. Width q) e h
@@ -103,6 +125,17 @@ module _ (second vertical clear : Bool) (w h : ℕ) where
   coded-some (a ∷ []) lt = absurd (omega arith)
   coded-some (a ∷ b ∷ t) lt = refl
 
+  -- a strip of no rows has no pixels
+  pub coded-empty : (s d : List ℕ) → 2 ≤ length s → h ≡ 0 → Answered (codedOf second vertical clear w h (drop 1 s)) d d (Drawn clear)
+  unfolding decode placed over
+  coded-empty s d le e =
+      let z : 8 * h ≡ 0 = omega arith in
+      let none : codedOf second vertical clear w h (drop 1 s) ≡ picture clear [] =
+      coded-some s le
+      ∙ ap (λ (n : ℕ). shown vertical clear h (decode second w n 1 (getD s 1 0) 1 (bitsOf (drop 2 s)))) z
+      ∙ ap (λ (n : ℕ). picture clear (upTo (λ j. getD [] (sourceOf vertical h j) 0) n)) z in
+      answered-yes _ clear [] d d none refl
+
 pub strip-none : (h : ℕ) (s : List ℕ) → length s < 1 → stripOf h s ≡ refusal 7
 unfolding stripOf
 strip-none h [] lt = refl
@@ -116,7 +149,7 @@ strip-some h (a ∷ t) lt = refl
 -- ---- only the first 8h pixels are placed
 
 source-lt : (vertical : Bool) (h j : ℕ) → j < 8 * h → sourceOf vertical h j < 8 * h
-source-lt true h j lt = source-below h j lt
+source-lt true h j lt = column-below h (j / 8) (j % 8) (omega arith) (omega arith)
 source-lt false h j lt = lt
 
 upTo-ext : (f g : ℕ → ℕ) (n : ℕ) → ((j : ℕ) → j < n → f j ≡ g j) → upTo f n ≡ upTo g n

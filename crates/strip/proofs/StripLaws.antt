@@ -1,56 +1,18 @@
 -- Laws of the moves and the decode of a strip.
-use mathlib.Core.Path.{_≡_, refl, sym, ap, ap₂, _∙_, subst}
-use mathlib.Core.Bool.{Bool, true, false}
-use mathlib.Core.List.{List, [], _∷_, _++_, append-assoc, append-nil}
-use Prim.Native.Nat.{ℕ, zero, suc, _+_, _-_, _%_, _^_, _≤_, _<_}
-use native.Mathlib.Nat.{not-suc-le-zero}
-use native.Mathlib.Numerals.{add-one, sub-one}
+use mathlib.Core.Path.{_≡_, refl, sym, ap, _∙_}
+use mathlib.Core.Bool.{Bool}
+use mathlib.Core.List.{List, [], _∷_, _++_, append-assoc}
+use Prim.Native.Nat.{ℕ, zero, suc, _+_, _%_, _^_, _≤_, _<_}
+use native.Mathlib.Numerals.{add-one}
 use native.Mathlib.Omega.{arith}
-use borrow.Author.Tests.{le-leb, lt-leb, eq-eqb, ne-eqb}
-use lib.ListN.{length, take, drop, set}
+use borrow.Author.Tests.{le-leb, lt-leb}
+use lib.ListN.{length, take, drop, set, replicate}
 use lib.Seq.{take-suc-set, drop-set-lt, drop-drop}
-use Rattle.bits.specs.declared.Bit.{Bit}
-use Rattle.strip.specs.declared.Next.{Next}
-use Rattle.strip.specs.declared.Made.the-variants.{All}
-use Rattle.bits.specs.Bits.{got, pull, Popped}
-use Rattle.strip.specs.Strip.{plus, minus, Move, refuse, go, walkOp, runOp, changeOp, opOf, measured, moveOf, Strip, refused, pixels, onto, glue, decode, Went, Filled}
-
-pub told-bit : (s : List ℕ) (l : List Bool) {r r′ : Bit} → r ≡ r′ → Popped s l r → Popped s l r′
-told-bit s l e h = subst (λ r. Popped s l r) e h
-
-pub told-next : (s : List ℕ) (m : Move) {r r′ : Next} → r ≡ r′ → Went s m r → Went s m r′
-told-next s m e h = subst (λ r. Went s m r) e h
-
-pub went-from : (s : List ℕ) (r : Next) {m m′ : Move} → m ≡ m′ → Went s m′ r → Went s m r
-went-from s r e h = subst (λ m. Went s m r) (sym e) h
+use Rattle.strip.specs.Strip.{minus, Move, refuse, go, opOf, measured, moveOf, Strip, refused, pixels, onto, glue, decode}
 
 -- what `wrapping_sub_u8` says is the difference modulo 256
 pub minus-of : (a b r : ℕ) → b < 2 ^ 8 → r < 2 ^ 8 → (r + b) % 2 ^ 8 ≡ a → minus a b ≡ r
 minus-of a b r hb hr e = omega arith
-
-pub change-run : (c s d : ℕ) (l : List Bool) → d ≡ 4 → changeOp c s (got d l) ≡ runOp c s (pull 8 l)
-change-run c s d l e = rw (eq-eqb d 4 e)
-
-pub change-by : (c s d : ℕ) (l : List Bool) → (d ≡ 4 → ⊥) → changeOp c s (got d l) ≡ go 0 (minus (plus c d) 4) s l
-change-by c s d l e = rw (ne-eqb d 4 e)
-
-pub two : {l t u : List Bool} (a b : Bool) → l ≡ a ∷ t → t ≡ b ∷ u → l ≡ a ∷ b ∷ u
-two a b e f = e ∙ ap {B = List Bool} (λ r. a ∷ r) f
-
-pub op-change : (second : Bool) (w c s : ℕ) {l t : List Bool} → second ≡ true → l ≡ true ∷ true ∷ t → opOf second w c s l ≡ changeOp c s (pull 3 t)
-op-change second w c s {l} {t} e f = ap₂ (λ q r. opOf q w c s r) e f
-
-pub op-walk : (second : Bool) (w c s : ℕ) {l t : List Bool} → second ≡ false → l ≡ true ∷ true ∷ t → opOf second w c s l ≡ walkOp c s t
-op-walk second w c s {l} {t} e f = ap₂ (λ q r. opOf q w c s r) e f
-
-module _ (second : Bool) (w k : ℕ) where
-  pub move-owed : (left c s : ℕ) (l : List Bool) → 0 < left → moveOf second w k left c s l ≡ go (left - 1) c s l
-  move-owed zero c s l h = absurd (not-suc-le-zero h)
-  move-owed (suc left) c s l h = rw sub-one
-
-  pub move-op : (left c s : ℕ) (l : List Bool) → left ≤ 0 → moveOf second w k left c s l ≡ measured k (opOf second w c s l)
-  move-op zero c s l h = refl
-  move-op (suc left) c s l h = absurd (not-suc-le-zero h)
 
 pub measured-fits : (k left c s : ℕ) (l : List Bool) → left ≤ k → measured k (go left c s l) ≡ go left c s l
 measured-fits k left c s l h = rw (le-leb left k h)
@@ -91,18 +53,34 @@ pub drop-store : (out d : List ℕ) (i c : ℕ) → drop i out ≡ drop i d → 
 drop-store out d i c e =
     drop-set-lt (i + 1) out i c (omega arith) ∙ sym (drop-drop 1 i out) ∙ ap (drop 1) e ∙ drop-drop 1 i d
 
-pub filled-all : (second : Bool) (w left c s : ℕ) (l : List Bool) (t total : ℕ) (out d : List ℕ) (x : Strip) → t ≡ total
-    → x ≡ glue (take t out) (decode second w (total - t) left c s l) → drop t out ≡ drop t d → Filled total x d out All
-unfolding decode
-filled-all second w left c s l t total out d x e f g =
-    let z : total - t ≡ 0 = omega arith in (
-      f
-          ∙ ap (λ (m : ℕ). glue (take t out) (decode second w m left c s l)) z
-          ∙ ap pixels (append-nil (take t out))
-          ∙ ap (λ (m : ℕ). pixels (take m out)) e,
-      rw e at g,
-    )
-
 pub glue-glue : (xs ys : List ℕ) (x : Strip) → glue xs (glue ys x) ≡ glue (xs ++ ys) x
 glue-glue xs ys (refused n) = refl
 glue-glue xs ys (pixels zs) = ap pixels (sym (append-assoc xs ys zs))
+
+-- ---- pixels that are owed, and an operation that gives some
+
+onto-glue : (c : ℕ) (xs : List ℕ) (x : Strip) → onto c (glue xs x) ≡ glue (c ∷ xs) x
+onto-glue c xs (refused n) = refl
+onto-glue c xs (pixels ys) = refl
+
+module _ (second : Bool) (w : ℕ) where
+  pub decode-owed : (n k c s : ℕ) (l : List Bool) → decode second w (n + k) n c s l ≡ glue (replicate n c) (decode second w k 0 c s l)
+  decode-owed zero k c s l = let e : 0 + k ≡ k = omega arith in ap (λ (j : ℕ). decode second w j 0 c s l) e ∙ glue-none (decode second w k 0 c s l)
+  decode-owed (suc n) k c s l =
+      let e : suc n + k ≡ suc (n + k) = omega arith in
+      decode-go second w (suc n + k) (n + k) (suc n) c s l e n c s l refl ∙ ap (onto c) (decode-owed n k c s l) ∙ onto-glue c (replicate n c) (decode second w k 0 c s l)
+
+  module _ (c s : ℕ) (l : List Bool) where
+    pub decode-op : (n k c′ s′ : ℕ) (l′ : List Bool) → opOf second w c s l ≡ go n c′ s′ l′
+        → decode second w (suc (n + k)) 0 c s l ≡ glue (replicate (suc n) c′) (decode second w k 0 c′ s′ l′)
+    decode-op n k c′ s′ l′ e =
+        decode-go second w (suc (n + k)) (n + k) 0 c s l refl n c′ s′ l′ (ap (measured (n + k)) e ∙ measured-fits (n + k) n c′ s′ l′ (omega arith))
+        ∙ ap (onto c′) (decode-owed n k c′ s′ l′)
+        ∙ onto-glue c′ (replicate n c′) (decode second w k 0 c′ s′ l′)
+
+    pub decode-past : (n k c′ s′ : ℕ) (l′ : List Bool) → opOf second w c s l ≡ go n c′ s′ l′ → k < n → decode second w (suc k) 0 c s l ≡ refused 8
+    decode-past n k c′ s′ l′ e h =
+        decode-stop second w (suc k) k 0 c s l refl 8 (ap (measured k) e ∙ measured-past k n c′ s′ l′ h)
+
+    pub decode-refuse : (r k : ℕ) → opOf second w c s l ≡ refuse r → decode second w (suc k) 0 c s l ≡ refused r
+    decode-refuse r k e = decode-stop second w (suc k) k 0 c s l refl r (ap (measured k) e)

@@ -1,17 +1,12 @@
 -- The whole operations at the front of a few bits, up to and including the first index: how many bits they take, how many pixels they
 -- give, and whether an index ends them. A test takes many operations at once by these numbers, kept in a table for each byte.
-use Prim.Native.Nat.{ℕ, zero, suc, _+_, _-_, _*_, _/_, _%_, _≤_, _<_}
+use Prim.Native.Nat.{ℕ, zero, suc, _+_, _*_, _/_, _%_, _≤_, _<_}
 use mathlib.Core.Path.{_≡_}
-use lib.ListN.{getD, drop}
+use lib.ListN.{getD}
 use mathlib.Core.Bool.{Bool, true, false, cond}
-use mathlib.Core.List.{List, [], _∷_, _++_}
+use mathlib.Core.List.{List, [], _∷_}
 use lib.Dec.{eqb}
-use Rattle.bits.specs.Bits.{bitValue, lowBits, bitsOf}
-use Rattle.strip.specs.declared.Ahead.{Ahead}
-use Rattle.strip.specs.declared.Made.the-variants.{Refused}
-use Rattle.strip.specs.declared.Turn.{Turn}
-use Rattle.strip.specs.declared.Turn.the-variants.{On, Refuse, Stay}
-use Rattle.strip.specs.Tally.{tally}
+use Rattle.bits.specs.Bits.{bitValue, lowBits}
 
 -- bits before the index, pixels, and 1 where an index ends the operations
 pub record Row : Type 0 where
@@ -55,26 +50,9 @@ abbrev pub packed : Row → ℕ
 packed r = r .bits + 16 * r .pixels + 256 * r .index
 
 -- rows that fit their places
-abbrev pub Fits : ℕ → Type 0
-Fits n = (n % 16 ≤ 8) × (n / 16 % 16 ≤ 8) × (n / 256 ≤ 1)
+abbrev pub Small : ℕ → Type 0
+Small n = (n % 16 ≤ 8) × (n / 16 % 16 ≤ 8) × (n / 256 ≤ 1)
 
 pub record Rows (second : Bool) (t : List ℕ) : Type 0 where
   pub row : (x : ℕ) → x < 256 → getD t x 0 ≡ packed (look second (lowBits 8 x))
-  pub fits : (x : ℕ) → x < 256 → Fits (getD t x 0)
-
--- a place in a body, ahead of which the bits of v stand: p bits and i pixels are behind
-pub record Seen (s : List ℕ) (a : Ahead) (b : ℕ) : Type 0 where
-  pub more : List Bool
-  pub bits : drop (a .p) (bitsOf s) ≡ lowBits b (a .v) ++ more
-
--- going on from the place a to the place r, the tally is the same
-pub record Went (second : Bool) (w : ℕ) (s : List ℕ) (a r : Ahead) : Type 0 where
-  pub on : (k : ℕ) → tally second w (r .i - a .i + k) 0 (drop (a .p) (bitsOf s)) ≡ tally second w k 0 (drop (r .p) (bitsOf s))
-
--- a step of a test of `total` pixels from bit p on, where i pixels are behind
-abbrev pub Turned : Bool → (w : ℕ) → (s : List ℕ) → (total p i : ℕ) → Turn → Type 0
-Turned second w s total p i (On r) =
-    (i < r .i) × (r .i ≤ total) × (r .p ≤ p + 54)
-    × (tally second w (total - i) 0 (drop p (bitsOf s)) ≡ tally second w (total - r .i) 0 (drop (r .p) (bitsOf s)))
-Turned second w s total p i (Refuse n) = tally second w (total - i) 0 (drop p (bitsOf s)) ≡ Refused n
-Turned second w s total p i Stay = Unit {0}
+  pub fits : (x : ℕ) → x < 256 → Small (getD t x 0)

@@ -6,9 +6,7 @@ use mathlib.Core.List.{List, [], _∷_, _++_}
 use Prim.Native.Nat.{ℕ, zero, suc, _+_, _-_, _%_}
 use lib.ListN.{length, take, drop}
 use lib.Dec.{leb, eqb}
-use Rattle.bits.specs.Bits.{Pull, short, got, pull, rest, Held}
-use Rattle.strip.specs.declared.Next.{Next}
-use Rattle.strip.specs.declared.Next.the-variants.{Go, Refuse}
+use Rattle.bits.specs.Bits.{Pull, short, got, pull}
 use Rattle.strip.specs.declared.Made.{Made}
 use Rattle.strip.specs.declared.Made.the-variants.{All, Refused}
 
@@ -89,11 +87,6 @@ unfoldable pub decode : Bool → ℕ → ℕ → ℕ → ℕ → ℕ → List Bo
 decode second w zero left c s l = pixels []
 decode second w (suc k) left c s l =
     elim (moveOf second w k left c s l) [ refuse n ↦ refused n | go left′ c′ s′ l′ ↦ onto c′ (decode second w k left′ c′ s′ l′) ]
-
--- the code's answer r to a move m over the body s
-abbrev pub Went : List ℕ → Move → Next → Type 0
-Went s m (Go st) = (m ≡ go (st .left) (st .colour) (st .step) (rest s (st .cur))) × Held (st .cur)
-Went s m (Refuse n) = m ≡ refuse n
 
 -- the answer r to a decode x of n values into a buffer d, which is e after
 abbrev pub Filled : ℕ → Strip → List ℕ → List ℕ → Made → Type 0

@@ -1,6 +1,8 @@
 // Strips of pixels: the body of one strip to its pixels by rows, or the number of its refusal (document 01, "Strips of pixels").
 mod codes;
+pub mod filling;
 mod operations;
+mod painting;
 mod placing;
 mod rows;
 pub mod test;
@@ -11,17 +13,18 @@ ghost use lib.ListN.{length, drop};
 ghost use Rattle.strip.specs.Picture.{rawOf, codedOf, stripOf, Answered};
 use bits::Cursor;
 use codes::kind_of;
-use operations::pixels_of;
+use painting::paint_bits;
 use placing::place;
 
-// Where a decode stands: `left` more pixels of `colour` are owed before the next operation is read at `cur`.
+// A place in a strip: i pixels are made, the last of them of this colour, and the operations go on at `cur`.
 pub struct State {
-    pub left: usize,
+    pub i: usize,
     pub colour: u8,
     pub step: u8,
     pub cur: Cursor,
 }
 
+// What going on from a place comes to.
 pub enum Next {
     Go(State),
     Refuse(u8),
@@ -31,20 +34,6 @@ pub enum Next {
 pub enum Made {
     All,
     Refused(u8),
-}
-
-// A place in a body: p bits and i pixels are behind it, and v holds the bits ahead of it, lowest first.
-pub struct Ahead {
-    pub p: usize,
-    pub i: usize,
-    pub v: u64,
-}
-
-// What a step of a test comes to: a place further on, a refusal, or no step.
-pub enum Turn {
-    On(Ahead),
-    Refuse(u8),
-    Stay,
 }
 
 // What a strip's code says of it.
@@ -96,14 +85,11 @@ fn coded(
     if body.len() < 2 {
         return Answer::Refused(7);
     }
+    if h == 0 {
+        return Answer::Drawn { clear: clear };
+    }
     let mut scratch = [0u8; 1600];
-    let from = State {
-        left: 1,
-        colour: body[1],
-        step: 1,
-        cur: Cursor::new(2),
-    };
-    match pixels_of(body, second, w, 8 * h, from, &mut scratch) {
+    match paint_bits(body, second, w, 8 * h, &mut scratch) {
         Made::Refused(n) => Answer::Refused(n),
         Made::All => {
             place(&scratch, vertical, h, out);

@@ -1,178 +1,196 @@
-// The operations of both methods, and the pixels that they make in order.
+// The operations of both methods, read at a place of a strip: where each leads, and the colour of the pixels it gives (document 01,
+// "Strips of pixels"). Nothing is painted here, so the test of a strip steps by the same functions as its painting.
 ghost use mathlib.Core.Path.{_≡_};
-ghost use Prim.Native.Nat.{_≤_};
-ghost use lib.ListN.{length};
-ghost use Rattle.bits.specs.Bits.{Held, rest, pull};
-ghost use Rattle.strip.specs.Strip.{Went, Filled, indexOp, walkOp, runOp, changeOp, opOf, moveOf, decode};
-use crate::Made;
+ghost use mathlib.Core.Bool.{true, false, cond};
+ghost use mathlib.Core.List.{List};
+ghost use Prim.Native.Nat.{ℕ, _+_, _%_, _≤_, _<_};
+ghost use Rattle.bits.specs.Bits.{Held, Full, rest, moved};
+ghost use Rattle.strip.specs.Strip.{plus, minus};
+ghost use Rattle.strip.specs.Place.{opLength, runAhead, keptBy, LeadsTo, Stepped, Fits};
 use crate::Next;
 use crate::State;
-use bits::Bit;
-use bits::Bits;
-use bits::Cursor;
 use std::num::wrapping_add_u8;
 use std::num::wrapping_sub_u8;
 
-// `10`: a new index of w bits, and the step is 1 again.
-fn index(body: &[u8], w: u32, cur: Cursor) -> Next
-    requires { ⌜ Held cur × (1 ≤ w) × (w ≤ 8) ⌝ }
-    ensures { λ r. ⌜ Went (now (body .entry)) (indexOp (pull w (rest (now (body .entry)) cur))) r ⌝ }
+// One of two values, without a branch.
+fn either(test: bool, a: u8, b: u8) -> u8
+    ensures { λ r. ⌜ r ≡ cond test a b ⌝ }
 {
-    match cur.bits(body, w) {
-        Bits::Value(v, next) => Next::Go(State {
-            left: 0,
-            colour: v,
-            step: 1,
-            cur: next,
-        }),
-        Bits::Short => Next::Refuse(7),
-    }
+    if test { a } else { b }
 }
 
-// `11` of the first method: a bit says whether the step is negated first.
-fn walk(body: &[u8], colour: u8, step: u8, cur: Cursor) -> Next
-    requires { ⌜ Held cur ⌝ }
-    ensures { λ r. ⌜ Went (now (body .entry)) (walkOp colour step (rest (now (body .entry)) cur)) r ⌝ }
+// Colours and steps are bytes, and wrap on purpose.
+fn less(a: u8, b: u8) -> u8
+    ensures { λ r. ⌜ r ≡ minus a b ⌝ }
 {
-    match cur.bit(body) {
-        Bit::Zero(next) => Next::Go(State {
-            left: 0,
-            colour: wrapping_sub_u8(colour, step),
-            step: step,
-            cur: next,
-        }),
-        Bit::One(next) => {
-            let turned = wrapping_sub_u8(0, step);
-            Next::Go(State {
-                left: 0,
-                colour: wrapping_sub_u8(colour, turned),
-                step: turned,
-                cur: next,
-            })
-        }
-        Bit::End => Next::Refuse(7),
-    }
+    wrapping_sub_u8(a, b)
 }
 
-// A run: 8 bits say how many pixels follow the first.
-fn run(body: &[u8], colour: u8, step: u8, cur: Cursor) -> Next
-    requires { ⌜ Held cur ⌝ }
-    ensures { λ r. ⌜ Went (now (body .entry)) (runOp colour step (pull 8 (rest (now (body .entry)) cur))) r ⌝ }
+fn more(a: u8, b: u8) -> u8
+    ensures { λ r. ⌜ r ≡ plus a b ⌝ }
 {
-    match cur.bits(body, 8) {
-        Bits::Value(n, next) => Next::Go(State {
-            left: n as usize,
-            colour: colour,
-            step: step,
-            cur: next,
-        }),
-        Bits::Short => Next::Refuse(7),
-    }
+    wrapping_add_u8(a, b)
 }
 
-// `11` of the second method: 3 bits say the change, or a run.
-fn change(body: &[u8], colour: u8, step: u8, cur: Cursor) -> Next
-    requires { ⌜ Held cur ⌝ }
-    ensures { λ r. ⌜ Went (now (body .entry)) (changeOp colour step (pull 3 (rest (now (body .entry)) cur))) r ⌝ }
+// How many bits the operation takes that starts with a 1 bit, where it isn't a run.
+fn length_of(second: bool, w: u32, hand: u64) -> u32
+    requires { ⌜ w ≤ 8 ⌝ }
+    ensures { λ r. ⌜ (r ≡ opLength second w hand) × (r ≤ 10) ⌝ }
 {
-    match cur.bits(body, 3) {
-        Bits::Value(d, next) => {
-            if d == 4 {
-                run(body, colour, step, next)
-            } else {
-                Next::Go(State {
-                    left: 0,
-                    colour: wrapping_sub_u8(wrapping_add_u8(colour, d), 4),
-                    step: step,
-                    cur: next,
-                })
-            }
-        }
-        Bits::Short => Next::Refuse(7),
+    if hand / 2 % 2 == 0 {
+        return 2 + w;
     }
+    if second { 5 } else { 3 }
 }
 
-// One operation of either method.
-fn op(body: &[u8], second: bool, w: u32, st: State) -> Next
-    requires { ⌜ Held (st .cur) × (1 ≤ w) × (w ≤ 8) ⌝ }
-    ensures { λ r. ⌜ Went (now (body .entry)) (opOf second w (st .colour) (st .step) (rest (now (body .entry)) (st .cur))) r ⌝ }
+// Whether a run of the second method stands ahead.
+pub(crate) fn run_at(second: bool, hand: u64) -> bool
+    ensures { λ r. ⌜ r ≡ runAhead second hand ⌝ }
+{
+    second & (hand % 32 == 19)
+}
+
+// `10` a new index, and the step is 1 again; `110` and `111` of the first method: the step, negated for `111`, is subtracted.
+fn first_op(st: State, w: u32) -> State
+    requires { ⌜ (w ≤ 8) × (opLength false w (st .cur .hand) ≤ st .cur .have) × (st .cur .have ≤ 63) × (st .i < 1600) ⌝ }
+    ensures { λ r. ⌜ (r .i ≡ st .i + 1) × (r .cur ≡ moved (opLength false w (st .cur .hand)) (st .cur)) × ((s : List ℕ) → st .cur .hand % 2 ≡ 1 → LeadsTo false w s st r) ⌝ }
 {
     let cur = st.cur;
-    match cur.bit(body) {
-        Bit::Zero(next) => Next::Go(State {
-            left: 0,
-            colour: st.colour,
-            step: st.step,
-            cur: next,
-        }),
-        Bit::One(one) => match one.bit(body) {
-            Bit::Zero(next) => index(body, w, next),
-            Bit::One(next) => {
-                if second {
-                    change(body, st.colour, st.step, next)
-                } else {
-                    walk(body, st.colour, st.step, next)
-                }
-            }
-            Bit::End => Next::Refuse(7),
-        },
-        Bit::End => Next::Refuse(7),
+    let walk = cur.hand / 2 % 2 == 1;
+    let turned = either(cur.behind_two(1) == 1, less(0, st.step), st.step);
+    let walked = less(st.colour, turned);
+    let next = cur.take(length_of(false, w, cur.hand)).next;
+    State {
+        i: st.i + 1,
+        colour: either(walk, walked, cur.behind_two(w)),
+        step: either(walk, turned, 1),
+        cur: next,
     }
 }
 
-// The next pixel, with k pixels after it in the strip: one that is owed, or the first of an operation's.
-fn advance(body: &[u8], second: bool, w: u32, k: usize, st: State) -> Next
-    requires { ⌜ Held (st .cur) × (1 ≤ w) × (w ≤ 8) ⌝ }
-    ensures { λ r. ⌜ Went (now (body .entry)) (moveOf second w k (st .left) (st .colour) (st .step) (rest (now (body .entry)) (st .cur))) r ⌝ }
+// `10` a new index; `11` and d of the second method: colour + d − 4.
+fn second_op(st: State, w: u32) -> State
+    requires { ⌜ (w ≤ 8) × (opLength true w (st .cur .hand) ≤ st .cur .have) × (st .cur .have ≤ 63) × (st .i < 1600) ⌝ }
+    ensures { λ r. ⌜ (r .i ≡ st .i + 1) × (r .cur ≡ moved (opLength true w (st .cur .hand)) (st .cur)) × ((s : List ℕ) → st .cur .hand % 2 ≡ 1 → runAhead true (st .cur .hand) ≡ false → LeadsTo true w s st r) ⌝ }
 {
-    let left = st.left;
-    if 0 < left {
-        let cur = st.cur;
-        return Next::Go(State {
-            left: left - 1,
-            colour: st.colour,
-            step: st.step,
-            cur: cur,
-        });
-    }
-    match op(body, second, w, st) {
-        Next::Go(to) => {
-            let more = to.left;
-            if more <= k {
-                Next::Go(to)
-            } else {
-                Next::Refuse(8)
-            }
-        }
-        Next::Refuse(n) => Next::Refuse(n),
+    let cur = st.cur;
+    let change = cur.hand / 2 % 2 == 1;
+    let changed = less(more(st.colour, cur.behind_two(3)), 4);
+    let next = cur.take(length_of(true, w, cur.hand)).next;
+    State {
+        i: st.i + 1,
+        colour: either(change, changed, cur.behind_two(w)),
+        step: either(change, st.step, 1),
+        cur: next,
     }
 }
 
-// The pixels of a strip, in the order in which they are made, into the first `total` bytes of `out`.
-pub(crate) fn pixels_of(
-    body: &[u8],
-    second: bool,
-    w: u32,
-    total: usize,
-    from: State,
-    out: &mut [u8],
-) -> Made
-    requires { ⌜ Held (from .cur) × (1 ≤ w) × (w ≤ 8) × (total ≤ length (now out)) ⌝ }
-    ensures { λ r. ⌜ Filled total (decode second w total (from .left) (from .colour) (from .step) (rest (now (body .entry)) (from .cur))) (now (out .entry)) (now (out .exit)) r ⌝ }
+// The operation that starts with a 1 bit, where it isn't a run.
+pub(crate) fn op(second: bool, w: u32, st: State) -> State
+    requires { ⌜ (w ≤ 8) × (opLength second w (st .cur .hand) ≤ st .cur .have) × (st .cur .have ≤ 63) × (st .i < 1600) ⌝ }
+    ensures { λ r. ⌜ (r .i ≡ st .i + 1) × (r .cur ≡ moved (opLength second w (st .cur .hand)) (st .cur)) × ((s : List ℕ) → st .cur .hand % 2 ≡ 1 → runAhead second (st .cur .hand) ≡ false → LeadsTo second w s st r) ⌝ }
 {
-    let mut st = from;
-    let mut i: usize = 0;
-    while i < total {
-        match advance(body, second, w, total - i - 1, st) {
-            Next::Go(to) => {
-                out[i] = to.colour;
-                st = to;
-                i += 1;
-            }
-            Next::Refuse(n) => {
-                return Made::Refused(n);
-            }
-        }
+    if second {
+        second_op(st, w)
+    } else {
+        first_op(st, w)
     }
-    Made::All
+}
+
+// k keeps.
+pub(crate) fn kept(st: State, k: u32) -> State
+    requires { ⌜ (k ≤ st .cur .have) × (st .cur .have ≤ 63) × (st .i < 1600) ⌝ }
+    ensures { λ r. ⌜ r ≡ keptBy k st ⌝ }
+{
+    let cur = st.cur;
+    let next = cur.take(k).next;
+    State {
+        i: st.i + k as usize,
+        colour: st.colour,
+        step: st.step,
+        cur: next,
+    }
+}
+
+// One operation that isn't a run, in a strip of `total` pixels.
+fn one(second: bool, w: u32, total: usize, st: State) -> Next
+    requires { ⌜ (w ≤ 8) × (st .cur .have ≤ 63) × (st .i < total) × (total ≤ 1600) ⌝ }
+    ensures { λ r. ⌜ ((s : List ℕ) → Held s (st .cur) → Full s (st .cur) → runAhead second (st .cur .hand) ≡ false → Stepped second w total s st r) ⌝ }
+{
+    let cur = st.cur;
+    if cur.have < 1 {
+        return Next::Refuse(7);
+    }
+    if cur.hand % 2 == 0 {
+        return Next::Go(kept(st, 1));
+    }
+    if cur.have < length_of(second, w, cur.hand) {
+        return Next::Refuse(7);
+    }
+    Next::Go(op(second, w, st))
+}
+
+// A run, in a strip of `total` pixels: its number is looked for before its pixels are measured.
+fn run(total: usize, st: State) -> Next
+    requires { ⌜ (st .cur .have ≤ 63) × (st .i < total) × (total ≤ 1600) ⌝ }
+    ensures { λ r. ⌜ ((w : ℕ) (s : List ℕ) → Held s (st .cur) → Full s (st .cur) → runAhead true (st .cur .hand) ≡ true → Stepped true w total s st r) ⌝ }
+{
+    let cur = st.cur;
+    if cur.have < 13 {
+        return Next::Refuse(7);
+    }
+    let number = cur.take(5).next.take(8);
+    let to = st.i + 1 + number.bits as usize;
+    if total < to {
+        return Next::Refuse(8);
+    }
+    let next = number.next;
+    Next::Go(State {
+        i: to,
+        colour: st.colour,
+        step: st.step,
+        cur: next,
+    })
+}
+
+// The next operation, in a strip of `total` pixels.
+pub(crate) fn step(second: bool, w: u32, total: usize, st: State) -> Next
+    requires { ⌜ (w ≤ 8) × (st .cur .have ≤ 63) × (st .i < total) × (total ≤ 1600) ⌝ }
+    ensures { λ r. ⌜ ((s : List ℕ) → Held s (st .cur) → Full s (st .cur) → Stepped second w total s st r) ⌝ }
+{
+    let cur = st.cur;
+    if run_at(second, cur.hand) {
+        return run(total, st);
+    }
+    one(second, w, total, st)
+}
+
+// The same place, with at least 56 bits in hand or all that are left.
+pub(crate) fn filled(body: &[u8], st: State) -> State
+    requires { ⌜ Held (now body) (st .cur) ⌝ }
+    ensures { λ r. ⌜ (r .i ≡ st .i) × (r .colour ≡ st .colour) × (r .step ≡ st .step) × Held (now (body .entry)) (r .cur) × Full (now (body .entry)) (r .cur) × (rest (now (body .entry)) (r .cur) ≡ rest (now (body .entry)) (st .cur)) ⌝ }
+{
+    let cur = st.cur;
+    let more = cur.filled(body);
+    State {
+        i: st.i,
+        colour: st.colour,
+        step: st.step,
+        cur: more,
+    }
+}
+
+// Whether so many bits are in hand and so many pixels are left, and no run stands ahead.
+pub(crate) fn fits(second: bool, total: usize, bits: u32, pixels: usize, st: State) -> bool
+    requires { ⌜ (st .i ≤ total) × (total ≤ 1600) × (pixels ≤ 100) ⌝ }
+    ensures { λ r. ⌜ (r ≡ true → Fits second total bits pixels st) ⌝ }
+{
+    let cur = st.cur;
+    if run_at(second, cur.hand) {
+        return false;
+    }
+    if cur.have < bits {
+        return false;
+    }
+    st.i + pixels <= total
 }

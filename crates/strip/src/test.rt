@@ -2,23 +2,25 @@
 ghost use mathlib.Core.Path.{_≡_};
 ghost use mathlib.Core.Bool.{Bool, true};
 ghost use mathlib.Core.List.{List};
-ghost use Prim.Native.Nat.{ℕ, _+_, _-_, _*_, _/_, _%_, _≤_, _<_};
+ghost use Prim.Native.Nat.{ℕ, _+_, _*_, _/_, _%_, _≤_, _<_};
 ghost use lib.ListN.{length, drop, getD};
-ghost use Rattle.bits.specs.Bits.{bitsOf};
-ghost use Rattle.strip.specs.Look.{Rows, Fits, Seen, Went, Turned};
+ghost use Rattle.bits.specs.Bits.{Held, bitsOf};
+ghost use Rattle.strip.specs.Look.{Rows, Small};
+ghost use Rattle.strip.specs.Place.{Went, Tested};
 ghost use Rattle.strip.specs.Picture.{rawOf, codedOf, stripOf};
 ghost use Rattle.strip.specs.Tally.{tally, testOf};
-use crate::Ahead;
 use crate::Kind;
 use crate::Made;
+use crate::Next;
 use crate::State;
-use crate::Turn;
 use crate::codes::kind_of;
-use crate::operations::pixels_of;
+use crate::operations::filled;
+use crate::operations::fits;
+use crate::operations::kept;
+use crate::operations::step;
 use crate::rows::first_rows;
 use crate::rows::second_rows;
-use bits::cursor_at;
-use bits::view;
+use bits::Cursor;
 
 fn wide(x: u16) -> usize
     ensures { λ r. ⌜ r ≡ x ⌝ }
@@ -33,108 +35,87 @@ fn byte(v: u64) -> usize
 }
 
 // How many bits a row's operations take.
-fn reach_of(row: usize, w: usize) -> usize
+fn reach_of(row: usize, w: u32) -> u32
     requires { ⌜ (row % 16 ≤ 8) × (row / 256 ≤ 1) × (w ≤ 8) ⌝ }
     ensures { λ r. ⌜ (r ≡ row % 16 + row / 256 * (2 + w)) × (r ≤ 18) ⌝ }
 {
-    row % 16 + row / 256 * (2 + w)
+    let bits = (row % 16) as u32;
+    if row < 256 { bits } else { bits + (2 + w) }
 }
 
 // Past the whole operations at the front of the next eight bits.
-fn past(rows: &[u16], w: usize, a: Ahead) -> Ahead
-    requires { ⌜ (256 ≤ length (now rows)) × ((x : ℕ) → x < 256 → Fits (getD (now rows) x 0)) × (w ≤ 8) × (a .p < 1099511627776) × (a .i < 1099511627776) ⌝ }
-    ensures { λ r. ⌜ (a .p ≤ r .p) × (r .p ≤ a .p + 18) × (a .i ≤ r .i) × (r .i ≤ a .i + 8) × ((second : Bool) (s : List ℕ) (b : ℕ) → Rows second (now (rows .entry)) → Seen s a b → 18 ≤ b → Went second w s a r × Seen s r (b - (r .p - a .p))) ⌝ }
+fn past(rows: &[u16], w: u32, st: State) -> State
+    requires { ⌜ (256 ≤ length (now rows)) × ((x : ℕ) → x < 256 → Small (getD (now rows) x 0)) × (w ≤ 8) × (18 ≤ st .cur .have) × (st .cur .have ≤ 63) × (st .i < 1600) ⌝ }
+    ensures { λ r. ⌜ (st .cur .have ≤ r .cur .have + 18) × (r .cur .have ≤ 63) × (st .i ≤ r .i) × (r .i ≤ st .i + 8) × ((s : List ℕ) → Held s (st .cur) → Held s (r .cur)) × ((second : Bool) (s : List ℕ) → Rows second (now (rows .entry)) → Went second w s st r) ⌝ }
 {
-    let row = wide(rows[byte(a.v)]);
-    let n = reach_of(row, w);
-    Ahead {
-        p: a.p + n,
-        i: a.i + row / 16 % 16,
-        v: a.v >> (n as u32),
+    let cur = st.cur;
+    let row = wide(rows[byte(cur.hand)]);
+    let next = cur.take(reach_of(row, w)).next;
+    State {
+        i: st.i + row / 16 % 16,
+        colour: st.colour,
+        step: st.step,
+        cur: next,
     }
 }
 
-// Past three rows.
-fn looks(rows: &[u16], w: usize, a: Ahead) -> Ahead
-    requires { ⌜ (256 ≤ length (now rows)) × ((x : ℕ) → x < 256 → Fits (getD (now rows) x 0)) × (w ≤ 8) × (a .p < 1000000000) × (a .i < 1000000000) ⌝ }
-    ensures { λ r. ⌜ (a .p ≤ r .p) × (r .p ≤ a .p + 54) × (a .i ≤ r .i) × (r .i ≤ a .i + 24) × ((second : Bool) (s : List ℕ) (b : ℕ) → Rows second (now (rows .entry)) → Seen s a b → 54 ≤ b → Went second w s a r) ⌝ }
+// Past many operations: 32 keeps at once, or three rows.
+fn looks(rows: &[u16], w: u32, st: State) -> State
+    requires { ⌜ (256 ≤ length (now rows)) × ((x : ℕ) → x < 256 → Small (getD (now rows) x 0)) × (w ≤ 8) × (54 ≤ st .cur .have) × (st .cur .have ≤ 63) × (st .i + 32 ≤ 1600) ⌝ }
+    ensures { λ r. ⌜ (st .i ≤ r .i) × (r .i ≤ st .i + 32) × ((s : List ℕ) → Held s (st .cur) → Held s (r .cur)) × ((second : Bool) (s : List ℕ) → Rows second (now (rows .entry)) → Went second w s st r) ⌝ }
 {
-    let one = past(rows, w, a);
+    let cur = st.cur;
+    if cur.hand % 4294967296 == 0 {
+        return kept(st, 32);
+    }
+    let one = past(rows, w, st);
     let two = past(rows, w, one);
     past(rows, w, two)
 }
 
-// Past a run at the front of the bits v, where i pixels are behind it.
-fn run_ahead(total: usize, p: usize, i: usize, v: u64) -> Turn
-    requires { ⌜ (i + 24 ≤ total) × (total ≤ 1600) × (p < 1000000000) ⌝ }
-    ensures { λ r. ⌜ ((w : ℕ) (s : List ℕ) (b : ℕ) → Seen s (record { p = p; i = i; v = v }) b → 13 ≤ b → v % 32 ≡ 19 → Turned true w s total p i r) ⌝ }
+// Past as many operations as the bits in hand and the pixels left allow, or past one.
+fn turn(body: &[u8], second: bool, w: u32, total: usize, rows: &[u16], from: State) -> Next
+    requires { ⌜ (w ≤ 8) × Held (now body) (from .cur) × (from .i < total) × (total ≤ 1600) × (256 ≤ length (now rows)) × Rows second (now rows) ⌝ }
+    ensures { λ r. ⌜ Tested second w total (now (body .entry)) from r ⌝ }
 {
-    let n = (v / 32 % 256) as usize;
-    let next = i + 1 + n;
-    if total < next {
-        return Turn::Refuse(8);
+    let st = filled(body, from);
+    if fits(second, total, 54, 32, st) {
+        let to = looks(rows, w, st);
+        if st.i < to.i {
+            return Next::Go(to);
+        }
     }
-    Turn::On(Ahead {
-        p: p + 13,
-        i: next,
-        v: 0,
-    })
-}
-
-// Many operations at once, from bit p on, where i pixels are behind.
-fn turn(body: &[u8], second: bool, w: usize, total: usize, rows: &[u16], p: usize, i: usize) -> Turn
-    requires { ⌜ (p / 8 + 8 ≤ length (now body)) × (i + 24 ≤ total) × (total ≤ 1600) × (w ≤ 8) × (p < 1000000000) ⌝ }
-    requires { ⌜ (256 ≤ length (now rows)) × Rows second (now rows) ⌝ }
-    ensures { λ r. ⌜ Turned second w (now (body .entry)) total p i r ⌝ }
-{
-    let v = view(body, p);
-    if second & (v % 32 == 19) {
-        return run_ahead(total, p, i, v);
+    if fits(second, total, 18, 9, st) {
+        let to = past(rows, w, st);
+        if st.i < to.i {
+            return Next::Go(to);
+        }
     }
-    let c = looks(rows, w, Ahead { p, i, v });
-    if i < c.i {
-        return Turn::On(c);
-    }
-    Turn::Stay
-}
-
-// The operations one by one, from bit p on, where i pixels are behind: the painter's own loop, its pixels left.
-fn one_by_one(body: &[u8], second: bool, w: u32, total: usize, p: usize, i: usize) -> Made
-    requires { ⌜ (1 ≤ w) × (w ≤ 8) × (p ≤ 8 * length (now body)) × (i ≤ total) × (total ≤ 1600) ⌝ }
-    ensures { λ r. ⌜ r ≡ tally second w (total - i) 0 (drop p (bitsOf (now (body .entry)))) ⌝ }
-{
-    let from = State {
-        left: 0,
-        colour: 0,
-        step: 0,
-        cur: cursor_at(body, p),
-    };
-    let mut scratch = [0u8; 1600];
-    pixels_of(body, second, w, total - i, from, &mut scratch)
+    step(second, w, total, st)
 }
 
 // The test of the operations of a body, whose first colour is pixel 0.
 pub(crate) fn test_bits(body: &[u8], second: bool, w: u32, total: usize, rows: &[u16]) -> Made
-    requires { ⌜ (1 ≤ w) × (w ≤ 8) × (1 ≤ total) × (total ≤ 1600) × (2 ≤ length (now body)) × (256 ≤ length (now rows)) × Rows second (now rows) ⌝ }
+    requires { ⌜ (w ≤ 8) × (1 ≤ total) × (total ≤ 1600) × (2 ≤ length (now body)) × (256 ≤ length (now rows)) × Rows second (now rows) ⌝ }
     ensures { λ r. ⌜ r ≡ tally second w total 1 (bitsOf (drop 2 (now (body .entry)))) ⌝ }
 {
-    let mut p: usize = 16;
-    let mut i: usize = 1;
-    while (i + 24 <= total) & (p / 8 + 8 <= body.len()) {
-        match turn(body, second, w as usize, total, rows, p, i) {
-            Turn::On(a) => {
-                p = a.p;
-                i = a.i;
+    let mut st = State {
+        i: 1,
+        colour: 0,
+        step: 0,
+        cur: Cursor::new(2),
+    };
+    while st.i < total {
+        match turn(body, second, w, total, rows, st) {
+            Next::Go(to) => {
+                st = to;
             }
-            Turn::Refuse(n) => {
+            Next::Refuse(n) => {
                 return Made::Refused(n);
-            }
-            Turn::Stay => {
-                return one_by_one(body, second, w, total, p, i);
             }
         }
     }
-    one_by_one(body, second, w, total, p, i)
+    Made::All
 }
 
 fn test_raw(body: &[u8], h: usize) -> Made

@@ -15,7 +15,7 @@ use lib.Dec.{lit<}
 use Rattle.bits.specs.Bits.{lowBits}
 use Rattle.strip.specs.Strip.{plus, minus}
 use Rattle.bits.proofs.BitLaws.{low-join, length-low}
-use Rattle.plane.proofs.MaskLaws.{drop-more}
+use Rattle.strip.proofs.FillLaws.{drop-more}
 use Rattle.writer.specs.declared.BitWriter.{BitWriter}
 use Rattle.writer.specs.Pack.{packed}
 use Rattle.writer.specs.Pixels.{opBits, stepOf}

@@ -1,48 +1,8 @@
 //! The calls that are measured, each on both sides: the library over its C interface (include/kildegrom.h), and the reference.
 
 use crate::room::Room;
+use common::calls::*;
 use reference::{actor, load as loads, object, point, session as sessions};
-
-extern "C" {
-    fn kg_record(room: *const u8, room_size: usize, record: *mut u8, record_size: usize) -> u32;
-    fn kg_load(r: *const u8, rn: usize, s: *mut u8, sn: usize, p: *mut u8, pn: usize, m: *mut u8, mn: usize) -> u32;
-    fn kg_draw_at(
-        room: *const u8,
-        room_size: usize,
-        session: *mut u8,
-        session_size: usize,
-        pixels: *mut u8,
-        pixels_size: usize,
-        masks: *mut u8,
-        masks_size: usize,
-        object: u32,
-        state: u32,
-        a: u32,
-        b: u32,
-    ) -> u32;
-    fn kg_hide(r: *const u8, rn: usize, s: *mut u8, sn: usize, p: *mut u8, pn: usize, m: *mut u8, mn: usize, object: u32) -> u32;
-    fn kg_take_back(r: *const u8, rn: usize, s: *mut u8, sn: usize, p: *mut u8, pn: usize, m: *mut u8, mn: usize) -> u32;
-    fn kg_object_at(r: *const u8, rn: usize, s: *const u8, sn: usize, flags: *const u8, flags_size: usize, x: u32, y: u32) -> u64;
-    fn kg_header(room: *const u8, room_size: usize, header: *mut u8, header_size: usize, object: u32) -> u32;
-    fn kg_name(room: *const u8, room_size: usize, object: u32) -> u64;
-    fn kg_hidden(masks: *const u8, masks_size: usize, w: u32, h: u32, n: u32, clip: u32, x: u32, y: u32) -> u64;
-    fn kg_stamp(
-        frame: *mut u8,
-        frame_size: usize,
-        masks: *const u8,
-        masks_size: usize,
-        picture: *const u8,
-        picture_size: usize,
-        w: u32,
-        h: u32,
-        n: u32,
-        width: u32,
-        height: u32,
-        x: i32,
-        y: i32,
-        clip: u32,
-    ) -> u32;
-}
 
 #[derive(Clone, Copy, PartialEq)]
 pub enum Side {

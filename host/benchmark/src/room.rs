@@ -1,6 +1,7 @@
 //! Writes the measured rooms: a background under given coding methods, planes, and objects with two states.
 
 use crate::picture::{plane, shape, Picture};
+use common::bits::Bits;
 use reference::write;
 
 #[derive(Clone, Copy, PartialEq)]
@@ -40,27 +41,9 @@ impl Method {
 const HORIZONTAL_TRANSPARENT: u8 = 0x30;
 const SECOND_TRANSPARENT: u8 = 0x6C;
 
-/// Bits from bit 0 up.
-struct Bits {
-    bytes: Vec<u8>,
-    used: usize,
-}
-
-impl Bits {
-    fn put(&mut self, number: usize, bits: usize) {
-        for i in 0..bits {
-            if self.used % 8 == 0 {
-                self.bytes.push(0);
-            }
-            *self.bytes.last_mut().expect("a byte") |= ((number >> i & 1) as u8) << (self.used % 8);
-            self.used += 1;
-        }
-    }
-}
-
 /// The second method's operations: a run where it is shorter than keeps (13 bits), else keep, a difference of −4 to 3, a new index.
 fn second(pixels: &[u8]) -> Vec<u8> {
-    let (mut bits, mut colour, mut i) = (Bits { bytes: vec![Method::Second.code(), pixels[0]], used: 0 }, pixels[0], 1);
+    let (mut bits, mut colour, mut i) = (Bits::after(vec![Method::Second.code(), pixels[0]]), pixels[0], 1);
     while i < pixels.len() {
         let run = pixels[i..].iter().take_while(|pixel| **pixel == colour).count().min(256);
         if run > 13 {

@@ -1,6 +1,7 @@
 //! Strip tables and bodies: operations drawn at random and encoded, so that they decode; or spoilt at one place.
 
 use crate::rng::Rng;
+use common::bits::Bits;
 
 /// A block of strips: `width` is the bytes of an offset, 4 in SMAP, 2 in ZP; a strip without body has offset 0.
 #[derive(Clone)]
@@ -61,23 +62,6 @@ pub fn any_code(r: &mut Rng) -> u8 {
     }
 }
 
-struct Bits {
-    bytes: Vec<u8>,
-    used: usize,
-}
-
-impl Bits {
-    fn put(&mut self, number: usize, bits: usize) {
-        for i in 0..bits {
-            if self.used % 8 == 0 {
-                self.bytes.push(0);
-            }
-            *self.bytes.last_mut().unwrap() |= ((number >> i & 1) as u8) << (self.used % 8);
-            self.used += 1;
-        }
-    }
-}
-
 fn finish(r: &mut Rng, mut body: Vec<u8>, fault: Fault) -> Vec<u8> {
     if fault == Fault::Cut {
         let most = body.len() - 1;
@@ -101,7 +85,7 @@ pub fn pixel_body(r: &mut Rng, code: u8, h: usize, fault: Fault) -> Vec<u8> {
     let (second, index) = (start >= 0x40, (code - start) as usize + 4);
     // The share of keeps, new indexes, steps, runs.
     let share = r.pick(&[[1, 1, 1, 1], [20, 1, 1, 1], [1, 20, 1, 0], [1, 1, 20, 0], [0, 0, 1, 0], [2, 1, 2, 12]]);
-    let (mut bits, mut made) = (Bits { bytes: vec![code, first], used: 0 }, 1);
+    let (mut bits, mut made) = (Bits::after(vec![code, first]), 1);
     let spoil_at = r.range(1, 8 * h);
     while made < 8 * h {
         let left = 8 * h - made;

@@ -7,7 +7,8 @@ use lib.ListN.{length, take, drop, getD, replicate, length-set, drop-of-length-l
 use denote.Ref.{now}
 use Rattle.strip.specs.Strip.{glue}
 use Rattle.plane.specs.Mask.{literals, copies, rowsOf}
-use Rattle.plane.proofs.MaskLaws.{plan-past-literals, plan-literals, plan-past-copies, plan-copies, rows-end, rows-literal, rows-op, rows-past, rows-copies, from-at, drop-more, rows-all}
+use Rattle.plane.proofs.MaskLaws.{plan-past-literals, plan-literals, plan-past-copies, plan-copies, rows-end, rows-literal, rows-op, rows-past, rows-copies, from-at, rows-all}
+use Rattle.strip.proofs.FillLaws.{drop-more}
 use Rattle.strip.proofs.StripLaws.{glue-none, glue-store, glue-glue, drop-store}
 use Rattle.plane.proofs.mask_rows.Statement.{statement}
 use Rattle.plane.proofs.mask_rows.Tie as tie

@@ -1,76 +1,76 @@
 use Rattle.strip.proofs.PastLaws.{past-went}
-use native.Mathlib.Omega.{arith}
+use Rattle.bits.proofs.CursorLaws.{moved-held}
+use Rattle.bits.specs.Bits.{Held, moved}
+use Rattle.bits.specs.declared.Cursor.{Cursor}
 use lib.ListN.{getD}
 use denote.Ref.{now}
-use Prim.Native.Nat.{ℕ, _+_, _*_, _/_, _%_, _^_}
-use mathlib.Core.Path.{_≡_, refl, sym, ap, _∙_}
+use Prim.Native.Nat.{ℕ, _+_, _*_, _/_, _%_}
+use mathlib.Core.Path.{_≡_, ap, sym, subst, _∙_}
+use native.Mathlib.Omega.{arith}
 use borrow.Author.Needs.{needs}
 use Rattle.strip.proofs.test.past.Statement.{statement}
 use Rattle.strip.proofs.test.past.Tie as tie
 use Rattle.strip.proofs.test.past.Reads as reads
 use Rattle.strip.proofs.test.past.Lts as lts
+use Rattle.bits.proofs.Cursor.take.Reads as take-reads
 use Rattle.strip.proofs.test.byte.Reads as byte-reads
 use Rattle.strip.proofs.test.reach_of.Reads as reach-of-reads
 use Rattle.strip.proofs.test.wide.Reads as wide-reads
 
--- src/test.rt:43:25
+-- src/test.rt:52:25
 byte-requires : tie.Need-byte-requires
 byte-requires c κs = search needs
 
--- src/test.rt:43:20
+-- src/test.rt:52:20
 mul-wide : tie.Need-mul-wide
 mul-wide c = search needs
 
--- src/test.rt:43:20
+-- src/test.rt:52:20
 shared-slice-read-wide : tie.Need-shared-slice-read-wide
 shared-slice-read-wide c = search needs
 
--- src/test.rt:43:9
+-- src/test.rt:52:9
 wide-requires : tie.Need-wide-requires
 wide-requires c κs = search needs
 
--- src/test.rt:44:9
+-- src/test.rt:53:25
 reach-of-requires : tie.Need-reach-of-requires
 reach-of-requires c κs =
-    let f = c .before .before .before .before .pre .1 (c .before .before .byte .result) (c .before .before .byte .ensures .1) in
-    (rw (c .wide .ensures) (f .0), rw (c .wide .ensures) (f .2), c .before .before .before .before .pre .2)
+    let x = c .before .before .before .before .before .args .st .cur .hand % 256 in
+    let t = now (c .before .before .before .before .before .args .rows) in
+    let row : c .wide .result ≡ getD t x 0 = c .wide .ensures ∙ ap (λ (k : ℕ). getD t k 0) (c .before .before .byte .ensures .0) in
+    let small = c .before .before .before .before .before .pre .1 x (omega arith) in
+    rw row (small .0, small .2, c .before .before .before .before .before .pre .2)
 
--- src/test.rt:46:12
-add-t6 : tie.Need-add-t6
-add-t6 c = search needs
+-- src/test.rt:53:16
+take-requires : tie.Need-take-requires
+take-requires c κs = search needs
 
--- src/test.rt:47:12
-add-t11 : tie.Need-add-t11
-add-t11 c = search needs
+-- src/test.rt:55:12
+add-t13 : tie.Need-add-t13
+add-t13 c = search needs
 
--- src/test.rt:48:20
-cast-t12 : tie.Need-cast-t12
-cast-t12 c = search needs
-
--- src/test.rt:48:20
-cast-t13 : tie.Need-cast-t13
-cast-t13 c = search needs
-
--- src/test.rt:48:12
-shr-t14 : tie.Need-shr-t14
-shr-t14 c = search needs
-
--- src/test.rt:39:1
+-- src/test.rt:47:1
 returns : tie.Need-returns
 returns c =
-    let a = c .before .before .before .before .before .before .before .before .args .a in
-    let t = now (c .before .before .before .before .before .before .before .before .args .rows) in
-    let w = c .before .before .before .before .before .before .before .before .args .w in
-    let row : c .before .before .before .before .wide .result ≡ getD t (a .v % 256) 0 = c .before .before .before .before .wide .ensures ∙ ap (λ (k : ℕ). getD t k 0) (c .before .before .before .before .before .before .byte .ensures .0) in
-    let n = c .before .before .before .reach-of .ensures .0 ∙ ap (λ (q : ℕ). q % 16 + q / 256 * (2 + w)) row in
-    let f = c .before .before .before .before .before .before .before .before .pre .1 (c .before .before .before .before .before .before .byte .result) (c .before .before .before .before .before .before .byte .ensures .1) in
-    let few = f .1 in
-    let g = c .before .before .before .before .wide .ensures in (
+    let st = c .before .before .before .before .before .before .before .before .before .args .st in
+    let w = c .before .before .before .before .before .before .before .before .before .args .w in
+    let x = st .cur .hand % 256 in
+    let t = now (c .before .before .before .before .before .before .before .before .before .args .rows) in
+    let row : c .before .before .before .before .wide .result ≡ getD t x 0 = c .before .before .before .before .wide .ensures ∙ ap (λ (k : ℕ). getD t k 0) (c .before .before .before .before .before .before .byte .ensures .0) in
+    let small = c .before .before .before .before .before .before .before .before .before .pre .1 x (omega arith) in
+    let few = c .before .before .before .reach-of .ensures .1 in
+    let have = ap (λ (q : Cursor). q .have) (c .before .before .take .ensures .1) in
+    let i = st .i + c .before .before .before .before .wide .result / 16 % 16 in
+    let on = ap (λ (r : ℕ). r / 16 % 16) row in (
+      omega (arith, have, few, c .before .before .before .before .before .before .before .before .before .pre .3),
+      omega (arith, have, c .before .before .before .before .before .before .before .before .before .pre .4),
       omega arith,
-      omega (arith, c .before .before .before .reach-of .ensures .1),
-      omega arith,
-      omega (arith, few, g),
-      λ second s b R S h. past-went second w (c .before .before .before .before .before .before .before .before .pre .2) s a b S h t R _ (ap (λ (k : ℕ). a .p + k) n) (ap (λ (q : ℕ). a .i + q / 16 % 16) row) (ap (λ (k : ℕ). a .v / 2 ^ k) n),
+      omega (arith, on, small .1),
+      λ s held. subst (Held s) (sym (c .before .before .take .ensures .1)) (moved-held s (st .cur) (c .before .before .before .reach-of .result) (omega (arith, few, c .before .before .before .before .before .before .before .before .before .pre .3)) held),
+      λ second s rows.
+          past-went second w (c .before .before .before .before .before .before .before .before .before .pre .2) s st (c .before .before .before .before .before .before .before .before .before .pre .3) t rows (record { i = i; colour = st .colour; step = st .step; cur = c .before .before .take .result .next }) (ap (λ (k : ℕ). st .i + k) on)
+          (c .before .before .take .ensures .1 ∙ ap (λ (n : ℕ). moved n (st .cur)) (c .before .before .before .reach-of .ensures .0 ∙ ap (λ (r : ℕ). r % 16 + r / 256 * (2 + w)) row)),
     )
 
 pub past-spec : {M : Type 1} → statement M
@@ -82,9 +82,6 @@ past-spec =
     shared-slice-read-wide
     wide-requires
     reach-of-requires
-    add-t6
-    add-t11
-    cast-t12
-    cast-t13
-    shr-t14
+    take-requires
+    add-t13
     returns)

@@ -1,0 +1,107 @@
+use Prim.Native.Nat.{_<_}
+use Rattle.bits.specs.Bits.{wordAt}
+use Prim.Native.Nat.{_+_, _*_, _/_, _-_, _%_, _^_}
+use lib.Pow.{pow-pos}
+use denote.Ref.{now}
+use mathlib.Core.Path.{refl}
+use native.Mathlib.Nat.{mod-lt}
+use native.Mathlib.Omega.{arith}
+use Rattle.bits.proofs.CursorLaws.{size-of, bunch-front, shift-exact, sum-fits, more-held, more-rest}
+use borrow.Author.Needs.{needs}
+use Rattle.bits.proofs.Cursor.bunch.Statement.{statement}
+use Rattle.bits.proofs.Cursor.bunch.Tie as tie
+use Rattle.bits.proofs.Cursor.bunch.Reads as reads
+use Rattle.bits.proofs.Cursor.bunch.Lts as lts
+use Rattle.bits.proofs.eight.Reads as eight-reads
+
+-- src/lib.rt:87:21
+sub-room : tie.Need-sub-room
+sub-room c = search needs
+
+-- src/lib.rt:88:31
+mul-size : tie.Need-mul-size
+mul-size c = search needs
+
+-- src/lib.rt:88:31
+cast-size : tie.Need-cast-size
+cast-size c = search needs
+
+-- src/lib.rt:88:25
+shl-size : tie.Need-shl-size
+shl-size c = search needs
+
+-- src/lib.rt:89:21
+eight-requires : tie.Need-eight-requires
+eight-requires c κs = search needs
+
+-- src/lib.rt:89:21
+rem-taken : tie.Need-rem-taken
+rem-taken c = rw (size-of (8 * ((63 - c .before .before .args .self .have) / 8)) (omega arith)) (pow-pos (8 * ((63 - c .before .before .args .self .have) / 8)))
+
+-- src/lib.rt:91:22
+cast-t10 : tie.Need-cast-t10
+cast-t10 c = search needs
+
+-- src/lib.rt:91:17
+add-t11 : tie.Need-add-t11
+add-t11 c = search needs
+
+-- src/lib.rt:92:26
+mul-t8 : tie.Need-mul-t8
+mul-t8 c = search needs
+
+-- src/lib.rt:92:19
+add-t12 : tie.Need-add-t12
+add-t12 c = search needs
+
+-- src/lib.rt:93:41
+cast-t9 : tie.Need-cast-t9
+cast-t9 c = search needs
+
+-- src/lib.rt:93:32
+shl-t13 : tie.Need-shl-t13
+shl-t13 c = search needs
+
+-- src/lib.rt:93:19
+add-t14 : tie.Need-add-t14
+add-t14 c =
+    let self = c .before .before .before .args .self in
+    let s = now (c .before .before .before .args .body) in
+    let n = (63 - self .have) / 8 in
+    let v = (wordAt s (self .at) + wordAt s (self .at + 4) * 4294967296) % 2 ^ (8 * n) in
+    let low : v < 2 ^ (8 * n) = mod-lt _ (pow-pos (8 * n)) in
+    rw (c .before .eight .ensures, size-of (8 * n) (omega arith), shift-exact s self (c .before .before .before .pre .0) (self .at + n) (8 * n) v (omega (arith, c .before .before .before .pre .0 .few)) low (omega (arith, c .before .before .before .pre .1)))
+    (record { fits = sum-fits s self (c .before .before .before .pre .0) (self .at + n) (8 * n) v (omega (arith, c .before .before .before .pre .0 .few)) low (omega (arith, c .before .before .before .pre .1)) })
+
+-- src/lib.rt:81:5
+returns : tie.Need-returns
+returns c =
+    let self = c .before .before .before .args .self in
+    let s = now (c .before .before .before .args .body) in
+    let n = (63 - self .have) / 8 in
+    let v = (wordAt s (self .at) + wordAt s (self .at + 4) * 4294967296) % 2 ^ (8 * n) in
+    let low : v < 2 ^ (8 * n) = mod-lt _ (pow-pos (8 * n)) in
+    rw (c .before .eight .ensures, size-of (8 * n) (omega arith), shift-exact s self (c .before .before .before .pre .0) (self .at + n) (8 * n) v (omega (arith, c .before .before .before .pre .0 .few)) low (omega (arith, c .before .before .before .pre .1))) (
+      more-held s self (c .before .before .before .pre .0) (self .at + n) (8 * n) v (omega (arith, c .before .before .before .pre .0 .few)) low (omega (arith, c .before .before .before .pre .1)),
+      more-rest s self (c .before .before .before .pre .0) (self .at + n) (8 * n) v (omega (arith, c .before .before .before .pre .0 .few)) low (omega (arith, c .before .before .before .pre .1)) (bunch-front s (self .at) n (c .before .before .before .pre .1) (omega arith) (c .before .before .shared-slice-known .given)),
+      omega (arith, c .before .before .before .pre .0 .few),
+    )
+
+pub bunch-spec : {M : Type 1} → statement M
+bunch-spec =
+    tie.close
+    (tie.spec
+    sub-room
+    mul-size
+    cast-size
+    shl-size
+    eight-requires
+    rem-taken
+    cast-t10
+    add-t11
+    mul-t8
+    add-t12
+    cast-t9
+    shl-t13
+    add-t14
+    returns)

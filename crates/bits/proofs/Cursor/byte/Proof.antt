@@ -1,0 +1,57 @@
+use Prim.Native.Nat.{_+_}
+use lib.ListN.{getD}
+use denote.Ref.{now}
+use mathlib.Core.Path.{refl}
+use native.Mathlib.Omega.{arith}
+use Rattle.bits.proofs.CursorLaws.{bits-byte, shift-exact, sum-fits, more-held, more-rest}
+use borrow.Author.Needs.{needs}
+use Rattle.bits.proofs.Cursor.byte.Statement.{statement}
+use Rattle.bits.proofs.Cursor.byte.Tie as tie
+use Rattle.bits.proofs.Cursor.byte.Reads as reads
+use Rattle.bits.proofs.Cursor.byte.Lts as lts
+
+-- src/lib.rt:62:17
+add-t4 : tie.Need-add-t4
+add-t4 c = search needs
+
+-- src/lib.rt:63:19
+add-t5 : tie.Need-add-t5
+add-t5 c = search needs
+
+-- src/lib.rt:64:33
+shared-slice-read-t7 : tie.Need-shared-slice-read-t7
+shared-slice-read-t7 c = search needs
+
+-- src/lib.rt:64:33
+cast-t8 : tie.Need-cast-t8
+cast-t8 c = omega (arith, c .shared-slice-known .given (c .before .before .args .self .at))
+
+-- src/lib.rt:64:53
+cast-t9 : tie.Need-cast-t9
+cast-t9 c = search needs
+
+-- src/lib.rt:64:32
+shl-t10 : tie.Need-shl-t10
+shl-t10 c = search needs
+
+-- src/lib.rt:64:19
+add-t11 : tie.Need-add-t11
+add-t11 c =
+    let s = now (c .before .before .before .before .args .body) in
+    let b = getD s (c .before .before .before .before .args .self .at) 0 in
+    let held = c .before .before .before .before .pre .0 in
+    let byte = c .before .before .shared-slice-known .given (c .before .before .before .before .args .self .at) .fits in
+    rw (shift-exact s (c .before .before .before .before .args .self) held (c .before .before .before .before .args .self .at + 1) 8 b (omega (arith, c .before .before .before .before .pre .1)) byte (omega (arith, c .before .before .before .before .pre .2))) (record { fits = sum-fits s (c .before .before .before .before .args .self) held (c .before .before .before .before .args .self .at + 1) 8 b (omega (arith, c .before .before .before .before .pre .1)) byte (omega (arith, c .before .before .before .before .pre .2)) })
+
+-- src/lib.rt:56:5
+returns : tie.Need-returns
+returns c =
+    let s = now (c .before .before .before .before .args .body) in
+    let b = getD s (c .before .before .before .before .args .self .at) 0 in
+    let held = c .before .before .before .before .pre .0 in
+    let byte = c .before .before .shared-slice-known .given (c .before .before .before .before .args .self .at) .fits in
+    rw (shift-exact s (c .before .before .before .before .args .self) held (c .before .before .before .before .args .self .at + 1) 8 b (omega (arith, c .before .before .before .before .pre .1)) byte (omega (arith, c .before .before .before .before .pre .2))) (more-held s (c .before .before .before .before .args .self) held (c .before .before .before .before .args .self .at + 1) 8 b (omega (arith, c .before .before .before .before .pre .1)) byte (omega (arith, c .before .before .before .before .pre .2)), more-rest s (c .before .before .before .before .args .self) held (c .before .before .before .before .args .self .at + 1) 8 b (omega (arith, c .before .before .before .before .pre .1)) byte (omega (arith, c .before .before .before .before .pre .2)) (bits-byte s (c .before .before .before .before .args .self .at) (c .before .before .before .before .pre .2)), refl)
+
+pub byte-spec : {M : Type 1} → statement M
+byte-spec =
+    tie.close (tie.spec add-t4 add-t5 shared-slice-read-t7 cast-t8 cast-t9 shl-t10 add-t11 returns)

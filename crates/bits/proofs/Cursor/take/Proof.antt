@@ -1,0 +1,33 @@
+use lib.Pow.{pow-pos}
+use Prim.Native.Nat.{ℕ, _%_, _^_}
+use mathlib.Core.Path.{refl, ap}
+use native.Mathlib.Omega.{arith}
+use Rattle.bits.proofs.CursorLaws.{size-of}
+use borrow.Author.Needs.{needs}
+use Rattle.bits.proofs.Cursor.take.Statement.{statement}
+use Rattle.bits.proofs.Cursor.take.Tie as tie
+use Rattle.bits.proofs.Cursor.take.Reads as reads
+use Rattle.bits.proofs.Cursor.take.Lts as lts
+
+-- src/lib.rt:37:25
+shl-size : tie.Need-shl-size
+shl-size c = search needs
+
+-- src/lib.rt:39:19
+rem-t4 : tie.Need-rem-t4
+rem-t4 c = rw (size-of (c .before .args .n) (omega (arith, c .before .pre))) (pow-pos (c .before .args .n))
+
+-- src/lib.rt:42:23
+sub-t5 : tie.Need-sub-t5
+sub-t5 c = search needs
+
+-- src/lib.rt:43:23
+shr-t7 : tie.Need-shr-t7
+shr-t7 c = search needs
+
+-- src/lib.rt:33:5
+returns : tie.Need-returns
+returns c = (ap (λ (k : ℕ). c .before .before .before .args .self .hand % k) (size-of (c .before .before .before .args .n) (omega (arith, c .before .before .before .pre))), refl)
+
+pub take-spec : {M : Type 1} → statement M
+take-spec = tie.close (tie.spec shl-size rem-t4 sub-t5 shr-t7 returns)

@@ -1,0 +1,118 @@
+-- Laws of a cursor: the bits left are the same whatever of them is in hand, and bits that are taken come from their front.
+use mathlib.Core.Path.{_≡_, refl, sym, ap, ap₂, _∙_, subst}
+use mathlib.Core.Bool.{Bool}
+use mathlib.Core.List.{List, [], _∷_, _++_, append-assoc}
+use Prim.Native.Nat.{ℕ, zero, suc, _+_, _-_, _*_, _/_, _%_, _^_, _≤_, _<_}
+use native.Mathlib.Nat.{one-mul, mod-eq-of-lt, lt-of-le-of-lt, mod-lt}
+use native.Mathlib.Numerals.{add-one}
+use native.Mathlib.Omega.{arith}
+use lib.Arith.{digits-lt}
+use lib.Dec.{lit<}
+use lib.ListN.{getD, length, drop}
+use lib.Pow.{pow-pos, pow-add, pow-mono, shr-lt, shl-exact}
+use lib.Seq.{drop-cons, drop-drop, drop-at, drop-nil}
+use mir.Val.{Fits}
+use mir.Syntax.{w8}
+use Rattle.bits.specs.declared.Cursor.{Cursor}
+use Rattle.bits.specs.Bits.{lowBits, bitsOf, rest, wordAt, Held, moved}
+use Rattle.bits.proofs.BitLaws.{low-join, low-split, low-drop, length-low}
+
+-- ---- bytes
+
+pub bits-byte : (s : List ℕ) (at : ℕ) → at < length s → bitsOf (drop at s) ≡ lowBits 8 (getD s at 0) ++ bitsOf (drop (at + 1) s)
+unfolding bitsOf
+bits-byte s at h = rw (add-one, drop-cons s at 0 h)
+
+join : (m n a b : ℕ) (t l : List Bool) → a < 2 ^ m → l ≡ lowBits n b ++ t → lowBits m a ++ l ≡ lowBits (m + n) (a + b * 2 ^ m) ++ t
+join m n a b t l h e = rw (e, low-join m n a b h) (sym (append-assoc (lowBits m a) (lowBits n b) t))
+
+bits-word : (s : List ℕ) (at : ℕ) → at + 4 ≤ length s → ((i : ℕ) → Fits w8 (getD s i 0)) → bitsOf (drop at s) ≡ lowBits 32 (wordAt s at) ++ bitsOf (drop (at + 4) s)
+bits-word s at h byte =
+    let e3 : bitsOf (drop (at + 3) s) ≡ lowBits 8 (getD s (at + 3) 0) ++ bitsOf (drop (at + 4) s) = rw (at-on 3) at (bits-byte s (at + 3) (omega arith)) in
+    let e2 : bitsOf (drop (at + 2) s) ≡ lowBits 16 (getD s (at + 2) 0 + getD s (at + 3) 0 * 256) ++ bitsOf (drop (at + 4) s) =
+    rw (at-on 2) at (bits-byte s (at + 2) (omega arith)) ∙ join 8 8 _ _ _ _ (byte (at + 2) .fits) e3 in
+    let e1 : bitsOf (drop (at + 1) s) ≡ lowBits 24 (getD s (at + 1) 0 + (getD s (at + 2) 0 + getD s (at + 3) 0 * 256) * 256) ++ bitsOf (drop (at + 4) s) =
+    rw (at-on 1) at (bits-byte s (at + 1) (omega arith)) ∙ join 8 16 _ _ _ _ (byte (at + 1) .fits) e2 in
+    bits-byte s at (omega arith) ∙ join 8 24 _ _ _ _ (byte at .fits) e1
+  where
+    at-on : (k : ℕ) → at + k + 1 ≡ at + (k + 1)
+    at-on k = omega arith
+
+word-lt : (s : List ℕ) (at : ℕ) → ((i : ℕ) → Fits w8 (getD s i 0)) → wordAt s at < 2 ^ 32
+word-lt s at byte = omega (arith, byte at .fits, byte (at + 1) .fits, byte (at + 2) .fits, byte (at + 3) .fits)
+
+bits-eight : (s : List ℕ) (at : ℕ) → at + 8 ≤ length s → ((i : ℕ) → Fits w8 (getD s i 0))
+    → bitsOf (drop at s) ≡ lowBits 64 (wordAt s at + wordAt s (at + 4) * 4294967296) ++ bitsOf (drop (at + 8) s)
+bits-eight s at h byte =
+    let four : at + 4 + 4 ≡ at + 8 = omega arith in
+    let second : bitsOf (drop (at + 4) s) ≡ lowBits 32 (wordAt s (at + 4)) ++ bitsOf (drop (at + 8) s) = rw four at (bits-word s (at + 4) (omega arith) byte) in
+    bits-word s at (omega arith) byte ∙ join 32 32 (wordAt s at) _ _ _ (word-lt s at byte) second
+
+pub drop-bytes : (a : ℕ) (s : List ℕ) → drop (8 * a) (bitsOf s) ≡ bitsOf (drop a s)
+unfolding bitsOf
+drop-bytes zero s = let z : 8 * 0 ≡ 0 = omega arith in ap (λ (k : ℕ). drop k (bitsOf s)) z
+drop-bytes (suc a) [] = drop-nil (8 * suc a)
+drop-bytes (suc a) (b ∷ s) =
+    let e : 8 * suc a ≡ 8 + 8 * a = omega arith in
+    ap (λ (k : ℕ). drop k (lowBits 8 b ++ bitsOf s)) e
+    ∙ sym (drop-drop (8 * a) 8 (lowBits 8 b ++ bitsOf s))
+    ∙ ap (drop (8 * a)) (drop-at (lowBits 8 b) (bitsOf s) 8 (length-low 8 b))
+    ∙ drop-bytes a s
+
+-- ---- bits that are taken
+
+pub moved-held : (s : List ℕ) (c : Cursor) (n : ℕ) → n ≤ c .have → Held s c → Held s (moved n c)
+moved-held s c n le held =
+    let back : c .have ≡ c .have - n + n = omega arith in
+    record {
+      few = omega (arith, held .few);
+      low = shr-lt (c .have - n) n (subst (λ (k : ℕ). c .hand < 2 ^ k) back (held .low));
+      inside = held .inside;
+    }
+
+pub size-of : (n : ℕ) → n ≤ 63 → 1 * 2 ^ n % 2 ^ 64 ≡ 2 ^ n
+size-of n le = simp one-mul (mod-eq-of-lt (lt-of-le-of-lt (pow-mono le) (lit< tt)))
+
+-- ---- m bits more in hand
+
+module _ (s : List ℕ) (c : Cursor) (held : Held s c) (at m v : ℕ) (few : c .have + m ≤ 63) (low : v < 2 ^ m) (inside : at ≤ length s) where
+  pub shift-exact : v * 2 ^ c .have % 2 ^ 64 ≡ v * 2 ^ c .have
+  shift-exact = shl-exact m (c .have) 64 low (omega arith)
+
+  whole : c .hand + v * 2 ^ c .have < 2 ^ (c .have + m)
+  whole =
+      let top : v * 2 ^ c .have + c .hand < 2 ^ m * 2 ^ c .have = digits-lt low (held .low) in
+      let turn : m + c .have ≡ c .have + m = omega arith in
+      subst (λ (k : ℕ). c .hand + v * 2 ^ c .have < 2 ^ k) turn (rw pow-add (omega (arith, top)))
+
+  pub sum-fits : c .hand + v * 2 ^ c .have < 2 ^ 64
+  sum-fits = let top : 2 ^ (c .have + m) ≤ 2 ^ 63 = pow-mono few in omega (arith, whole)
+
+  abbrev more : Cursor
+  more = record { at = at; have = c .have + m; hand = c .hand + v * 2 ^ c .have }
+
+  pub more-held : Held s more
+  more-held = record { few = few; low = whole; inside = inside }
+
+  pub more-rest : bitsOf (drop (c .at) s) ≡ lowBits m v ++ bitsOf (drop at s) → rest s more ≡ rest s c
+  unfolding rest
+  more-rest e = sym (join (c .have) m (c .hand) v (bitsOf (drop at s)) (bitsOf (drop (c .at) s)) (held .low) e)
+
+-- n of eight bytes more
+pub bunch-front : (s : List ℕ) (at n : ℕ) → at + 8 ≤ length s → n ≤ 8 → ((i : ℕ) → Fits w8 (getD s i 0))
+    → bitsOf (drop at s) ≡ lowBits (8 * n) ((wordAt s at + wordAt s (at + 4) * 4294967296) % 2 ^ (8 * n)) ++ bitsOf (drop (at + n) s)
+bunch-front s at n h few byte =
+    let all = wordAt s at + wordAt s (at + 4) * 4294967296 in
+    let after = bitsOf (drop (at + 8) s) in
+    let size : 64 ≡ 8 * n + (64 - 8 * n) = omega arith in
+    let front : bitsOf (drop at s) ≡ lowBits (8 * n + (64 - 8 * n)) all ++ after =
+    bits-eight s at h byte ∙ ap (λ (k : ℕ). lowBits k all ++ after) size in
+    let back : bitsOf (drop (at + n) s) ≡ lowBits (64 - 8 * n) (all / 2 ^ (8 * n)) ++ after =
+    sym (ap bitsOf (drop-drop n at s))
+    ∙ sym (drop-bytes n (drop at s))
+    ∙ ap (drop (8 * n)) front
+    ∙ low-drop (8 * n) (64 - 8 * n) all after in
+    front
+    ∙ ap (λ (l : List Bool). l ++ after) (low-split (8 * n) (64 - 8 * n) all)
+    ∙ append-assoc (lowBits (8 * n) (all % 2 ^ (8 * n))) (lowBits (64 - 8 * n) (all / 2 ^ (8 * n))) after
+    ∙ ap (λ (l : List Bool). lowBits (8 * n) (all % 2 ^ (8 * n)) ++ l) (sym back)
