@@ -1,6 +1,6 @@
 -- Laws of the low bits of a number, and of a number read from them.
-use mathlib.Core.Path.{_≡_, refl, sym, ap, ap₂, _∙_, subst}
-use mathlib.Core.Bool.{Bool, true, false}
+use mathlib.Core.Path.{_≡_, refl, sym, ap, ap₂, _∙_}
+use mathlib.Core.Bool.{Bool}
 use mathlib.Core.List.{List, [], _∷_, _++_, append-assoc}
 use Prim.Native.Nat.{ℕ, zero, suc, _+_, _-_, _*_, _/_, _%_, _^_, _≤_, _<_}
 use native.Mathlib.Nat.{mod-lt, suc-sub-suc, sub-zero, le-of-suc-le-suc, not-suc-le-zero, zero-add, suc-add, div-one, mod-one, pow-suc, mul-assoc, div-add-mod'}

@@ -1,15 +1,15 @@
 -- Laws of a cursor: the bits left are the same whatever of them is in hand, and bits that are taken come from their front.
-use mathlib.Core.Path.{_≡_, refl, sym, ap, ap₂, _∙_, subst}
+use mathlib.Core.Path.{_≡_, sym, ap, _∙_, subst}
 use mathlib.Core.Bool.{Bool}
 use mathlib.Core.List.{List, [], _∷_, _++_, append-assoc}
 use Prim.Native.Nat.{ℕ, zero, suc, _+_, _-_, _*_, _/_, _%_, _^_, _≤_, _<_}
-use native.Mathlib.Nat.{one-mul, mod-eq-of-lt, lt-of-le-of-lt, mod-lt}
+use native.Mathlib.Nat.{one-mul, mod-eq-of-lt, lt-of-le-of-lt}
 use native.Mathlib.Numerals.{add-one}
 use native.Mathlib.Omega.{arith}
 use lib.Arith.{digits-lt}
 use lib.Dec.{lit<}
 use lib.ListN.{getD, length, drop}
-use lib.Pow.{pow-pos, pow-add, pow-mono, shr-lt, shl-exact}
+use lib.Pow.{pow-add, pow-mono, shr-lt, shl-exact}
 use lib.Seq.{drop-cons, drop-drop, drop-at, drop-nil}
 use mir.Val.{Fits}
 use mir.Syntax.{w8}

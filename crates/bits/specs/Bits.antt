@@ -1,6 +1,5 @@
 -- The bits of a body, read from bit 0 up, and numbers of n bits, low bit first (document 01, "Strips of pixels"); what of them a cursor
 -- has not handed out yet.
-use mathlib.Core.Path.{_≡_}
 use mathlib.Core.Bool.{Bool, true, false}
 use mathlib.Core.List.{List, [], _∷_, _++_}
 use Prim.Native.Nat.{ℕ, zero, suc, _+_, _-_, _*_, _/_, _%_, _^_, _≤_, _<_}

@@ -1,10 +1,13 @@
 -- One strip of masks (document 01, "Strips of masks"): what its bytes mean, its rows or the number of its refusal, 7 or 8.
+use mathlib.Core.Path.{_≡_}
 use mathlib.Core.Bool.{Bool, true, false}
 use mathlib.Core.List.{List, [], _∷_}
-use Prim.Native.Nat.{ℕ, zero, suc, _-_}
-use lib.ListN.{replicate}
-use lib.Dec.{ltb, leb}
+use Prim.Native.Nat.{ℕ, zero, suc, _+_, _-_, _≤_}
+use lib.ListN.{length, getD, take, drop, replicate}
+use lib.Dec.{ltb}
 use Rattle.strip.specs.Strip.{Strip, refused, pixels, onto, glue}
+use Rattle.plane.specs.declared.Rows.{Rows}
+use Rattle.plane.specs.declared.Rows.the-variants.{Literals, Copies, Refuse}
 
 -- what is owed: so many literal rows (0: an operation comes next), or so many copies of the next byte
 pub data Owed : Type 0 where
@@ -35,3 +38,13 @@ rowsOf (b ∷ t) zero p = pixels []
 rowsOf (b ∷ t) (suc k) (copies n) = glue (replicate n b) (rowsOf t (suc k - n) (literals zero))
 rowsOf (b ∷ t) (suc k) (literals (suc n)) = onto b (rowsOf t k (literals n))
 rowsOf (op ∷ t) (suc k) (literals zero) = elim (planOf (suc k) op) [ past ↦ refused 8 | owe p ↦ rowsOf t (suc k) p ]
+
+-- the answer to the operation at a place, with k rows to go: what the bytes from there on give
+abbrev pub RowsAt : List ℕ → (at k : ℕ) → Rows → Type 0
+RowsAt s at k (Literals n) =
+    (n ≤ k) × (at + 1 + n ≤ length s)
+    × (rowsOf (drop at s) k (literals 0) ≡ glue (take n (drop (at + 1) s)) (rowsOf (drop (at + 1 + n) s) (k - n) (literals 0)))
+RowsAt s at k (Copies n) =
+    (n ≤ k) × (at + 2 ≤ length s)
+    × (rowsOf (drop at s) k (literals 0) ≡ glue (replicate n (getD s (at + 1) 0)) (rowsOf (drop (at + 2) s) (k - n) (literals 0)))
+RowsAt s at k (Refuse m) = rowsOf (drop at s) k (literals 0) ≡ refused m

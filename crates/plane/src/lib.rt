@@ -2,11 +2,61 @@
 ghost use mathlib.Core.Path.{_≡_};
 ghost use mathlib.Core.List.{_++_};
 ghost use Prim.Native.Nat.{_+_, _≤_};
-ghost use lib.ListN.{length, take, drop, replicate};
+ghost use lib.ListN.{length, take, drop};
 ghost use Rattle.strip.specs.Strip.{Filled};
-ghost use Rattle.plane.specs.Mask.{rowsOf, literals};
+ghost use Rattle.strip.specs.Tally.{madeOf};
+ghost use Rattle.plane.specs.Mask.{rowsOf, literals, RowsAt};
 use strip::Made;
 use strip::filling::fill;
+
+// What the operation at a place asks: so many literal rows, so many copies of one byte, or a refusal. Its data starts at the byte after it.
+pub enum Rows {
+    Literals(usize),
+    Copies(usize),
+    Refuse(u8),
+}
+
+// The operation at a place with `left` rows to go. Passing the last row is tested before missing bytes.
+fn rows_at(body: &[u8], at: usize, left: usize) -> Rows
+    requires { ⌜ 1 ≤ left ⌝ }
+    ensures { λ r. ⌜ RowsAt (now (body .entry)) at left r ⌝ }
+{
+    if body.len() <= at {
+        return Rows::Refuse(7);
+    }
+    let b = body[at];
+    let more = body.len() - at - 1;
+    if b < 0x80 {
+        let n = b as usize;
+        if left < n {
+            return Rows::Refuse(8);
+        }
+        if more < n {
+            return Rows::Refuse(7);
+        }
+        return Rows::Literals(n);
+    }
+    let n = (b - 0x80) as usize;
+    if left < n {
+        return Rows::Refuse(8);
+    }
+    if more < 1 {
+        return Rows::Refuse(7);
+    }
+    Rows::Copies(n)
+}
+
+// n bytes of `body` from `from` on into `out` from `to` on.
+fn copy(body: &[u8], from: usize, n: usize, out: &mut [u8], to: usize)
+    requires { ⌜ (from + n ≤ length (now body)) × (to + n ≤ length (now out)) ⌝ }
+    ensures { λ _. ⌜ (take (to + n) (now (out .exit)) ≡ take to (now (out .entry)) ++ take n (drop from (now (body .entry)))) × (drop (to + n) (now (out .exit)) ≡ drop (to + n) (now (out .entry))) ⌝ }
+{
+    let mut k: usize = 0;
+    while k < n {
+        out[to + k] = body[from + k];
+        k += 1;
+    }
+}
 
 // One mask strip body of h rows into the first h bytes of `out`.
 pub fn mask_rows(body: &[u8], h: usize, out: &mut [u8]) -> Made
@@ -15,36 +65,45 @@ pub fn mask_rows(body: &[u8], h: usize, out: &mut [u8]) -> Made
 {
     let mut at: usize = 0;
     let mut i: usize = 0;
-    let mut lit: usize = 0;
     while i < h {
-        if body.len() <= at {
-            return Made::Refused(7);
+        match rows_at(body, at, h - i) {
+            Rows::Literals(n) => {
+                copy(body, at + 1, n, out, i);
+                i += n;
+                at = at + 1 + n;
+            }
+            Rows::Copies(n) => {
+                fill(out, i, n, body[at + 1]);
+                i += n;
+                at += 2;
+            }
+            Rows::Refuse(number) => {
+                return Made::Refused(number);
+            }
         }
-        let b = body[at];
-        let next = at + 1;
-        if 0 < lit {
-            out[i] = b;
-            i += 1;
-            lit -= 1;
-            at = next;
-        } else if b < 0x80 {
-            let n = b as usize;
-            if h - i < n {
-                return Made::Refused(8);
+    }
+    Made::All
+}
+
+// The test of one mask strip body of h rows: whether it has its rows, or the number of its refusal.
+pub fn test_rows(body: &[u8], h: usize) -> Made
+    ensures { λ r. ⌜ r ≡ madeOf (rowsOf (now (body .entry)) h (literals 0)) ⌝ }
+{
+    let mut at: usize = 0;
+    let mut left = h;
+    while 0 < left {
+        match rows_at(body, at, left) {
+            Rows::Literals(n) => {
+                left -= n;
+                at = at + 1 + n;
             }
-            lit = n;
-            at = next;
-        } else {
-            let n = (b - 0x80) as usize;
-            if h - i < n {
-                return Made::Refused(8);
+            Rows::Copies(n) => {
+                left -= n;
+                at += 2;
             }
-            if body.len() <= next {
-                return Made::Refused(7);
+            Rows::Refuse(number) => {
+                return Made::Refused(number);
             }
-            fill(out, i, n, body[next]);
-            i += n;
-            at = next + 1;
         }
     }
     Made::All

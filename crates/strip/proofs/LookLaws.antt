@@ -1,19 +1,18 @@
 -- Laws of the look at a few bits: the tally goes on past the operations that it counts.
-use mathlib.Core.Path.{_≡_, refl, sym, ap, _∙_, subst}
+use mathlib.Core.Path.{_≡_, refl, sym, ap, _∙_}
 use mathlib.Core.Bool.{Bool, true, false, cond}
 use mathlib.Core.List.{List, [], _∷_, _++_}
-use Prim.Native.Nat.{ℕ, zero, suc, _+_, _*_, _≤_, _<_}
+use Prim.Native.Nat.{ℕ, zero, suc, _+_, _*_, _≤_}
 use native.Mathlib.Omega.{arith}
-use borrow.Author.Tests.{le-leb}
-use lib.Dec.{eqb, leb}
+use lib.Dec.{eqb}
 use lib.ListN.{length, drop}
 use lib.Seq.{drop-drop}
-use Rattle.bits.specs.Bits.{Pull, short, got, bitValue, below, pull}
+use Rattle.bits.specs.Bits.{got, bitValue, below, pull}
 use Rattle.strip.specs.declared.Made.{Made}
 use Rattle.strip.specs.declared.Made.the-variants as Made
-use Rattle.strip.specs.Strip.{plus, minus, Move, refuse, go, choose, indexOp, walkOp, runOp, changeOp, opOf, measured, moveOf}
+use Rattle.strip.specs.Strip.{plus, minus, Move, refuse, go, choose, indexOp, runOp, opOf, measured}
 use Rattle.strip.specs.Tally.{tally}
-use Rattle.strip.specs.Look.{Row, nothing, anIndex, after, threeBits, look, reach}
+use Rattle.strip.specs.Look.{Row, nothing, after, threeBits, look, reach}
 use Rattle.strip.proofs.StripLaws.{measured-fits}
 
 -- a number whose bits are there

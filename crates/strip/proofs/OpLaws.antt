@@ -1,5 +1,5 @@
 -- Laws of one operation, by the number v whose b low bits stand ahead, with the bits t after them.
-use mathlib.Core.Path.{_≡_, refl, sym, ap, ap₂, _∙_, subst}
+use mathlib.Core.Path.{_≡_, refl, sym, ap, ap₂, _∙_}
 use mathlib.Core.Bool.{Bool, true, false, cond}
 use mathlib.Core.List.{List, [], _∷_, _++_, append-nil}
 use mathlib.Core.Logic.{by-cases}
@@ -12,7 +12,7 @@ use lib.ListN.{drop}
 use lib.Pow.{shr-shr}
 use Rattle.bits.specs.Bits.{lowBits, bitsOf, short, got, pull, rest, moved}
 use Rattle.bits.proofs.BitLaws.{length-low, pull-low, pull-short}
-use Rattle.strip.specs.Strip.{plus, minus, Move, refuse, go, choose, indexOp, walkOp, runOp, changeOp, opOf}
+use Rattle.strip.specs.Strip.{plus, minus, refuse, go, choose, indexOp, walkOp, runOp, changeOp, opOf}
 use Rattle.strip.specs.declared.State.{State}
 use Rattle.strip.specs.Place.{opLength, runAhead, LeadsTo}
 

@@ -12,10 +12,10 @@ use Rattle.strip.specs.declared.State.{State}
 use Rattle.strip.specs.declared.Next.{Next}
 use Rattle.strip.specs.declared.Next.the-variants.{Go, Refuse}
 use Rattle.strip.specs.declared.Made.{Made}
-use Rattle.strip.specs.declared.Made.the-variants.{All, Refused}
+use Rattle.strip.specs.declared.Made.the-variants.{All}
 use Rattle.strip.specs.Strip.{Strip, refused, pixels, glue}
 use Rattle.strip.specs.Tally.{madeOf, tally}
-use Rattle.strip.specs.Look.{Row, nothing, anIndex, after, threeBits, look, reach, Rows}
+use Rattle.strip.specs.Look.{Row, nothing, after, threeBits, look, reach, Rows}
 use Rattle.strip.specs.Place.{ahead, Gives, Stepped, Went, Tested, keptBy}
 use Rattle.strip.proofs.LookLaws.{look-passes}
 use Rattle.strip.proofs.PlaceLaws.{gives-kept}
@@ -127,7 +127,7 @@ module _ (second : Bool) (w : ℕ) (le : w ≤ 8) (s : List ℕ) (st : State) (e
 
 -- ---- past what gives pixels of one colour
 
-made-glue : (xs : List ℕ) (y : Strip) → madeOf (glue xs y) ≡ madeOf y
+pub made-glue : (xs : List ℕ) (y : Strip) → madeOf (glue xs y) ≡ madeOf y
 made-glue xs (refused n) = refl
 made-glue xs (pixels ys) = refl
 

@@ -10,7 +10,7 @@ use native.Mathlib.Decide.{decLt}
 use native.Mathlib.Omega.{arith}
 use borrow.Author.Tests.{eqb-true}
 use lib.Dec.{eqb}
-use lib.ListN.{length, take, drop, set, replicate, replicate-append-replicate, drop-of-length-le}
+use lib.ListN.{length, take, drop, set, replicate, drop-of-length-le}
 use lib.Pow.{mod-pow-add, shr-shr}
 use lib.Seq.{take-suc-set}
 use Rattle.bits.specs.declared.Cursor.{Cursor}

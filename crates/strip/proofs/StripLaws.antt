@@ -3,11 +3,10 @@ use mathlib.Core.Path.{_≡_, refl, sym, ap, _∙_}
 use mathlib.Core.Bool.{Bool}
 use mathlib.Core.List.{List, [], _∷_, _++_, append-assoc}
 use Prim.Native.Nat.{ℕ, zero, suc, _+_, _%_, _^_, _≤_, _<_}
-use native.Mathlib.Numerals.{add-one}
 use native.Mathlib.Omega.{arith}
 use borrow.Author.Tests.{le-leb, lt-leb}
-use lib.ListN.{length, take, drop, set, replicate}
-use lib.Seq.{take-suc-set, drop-set-lt, drop-drop}
+use lib.ListN.{drop, set, replicate}
+use lib.Seq.{drop-set-lt, drop-drop}
 use Rattle.strip.specs.Strip.{minus, Move, refuse, go, opOf, measured, moveOf, Strip, refused, pixels, onto, glue, decode}
 
 -- what `wrapping_sub_u8` says is the difference modulo 256
@@ -43,11 +42,6 @@ module _ (second : Bool) (w n k left c s : ℕ) (l : List Bool) (more : n ≡ su
   decode-stop r e =
       ap (λ (m : ℕ). decode second w m left c s l) more
       ∙ ap (λ (q : Move). elim q as (λ _. Strip) [ refuse r ↦ refused r | go a b d f ↦ onto b (decode second w k a b d f) ]) e
-
--- one more pixel is stored
-pub glue-store : (out : List ℕ) (i c : ℕ) (x : Strip) → i < length out → glue (take i out) (onto c x) ≡ glue (take (i + 1) (set out i c)) x
-glue-store out i c x h =
-    glue-onto (take i out) c x ∙ ap (λ (p : List ℕ). glue p x) (sym (rw (← add-one) at (take-suc-set {A = ℕ} out i c h)))
 
 pub drop-store : (out d : List ℕ) (i c : ℕ) → drop i out ≡ drop i d → drop (i + 1) (set out i c) ≡ drop (i + 1) d
 drop-store out d i c e =

@@ -1,15 +1,15 @@
 -- Laws of the tally: it is what the decode comes to, and it goes on past an operation as the decode does.
-use mathlib.Core.Path.{_≡_, refl, sym, ap, _∙_, subst}
+use mathlib.Core.Path.{_≡_, refl, sym, ap, _∙_}
 use mathlib.Core.Bool.{Bool, true, false}
 use mathlib.Core.List.{List, [], _∷_}
-use Prim.Native.Nat.{ℕ, zero, suc, _*_, _≤_, _<_}
+use Prim.Native.Nat.{ℕ, zero, suc, _*_, _≤_}
 use lib.Dec.{leb, eqb}
 use lib.ListN.{getD, length, drop}
 use native.Mathlib.Omega.{arith}
 use Rattle.bits.specs.Bits.{Pull, short, got, pull, bitsOf}
 use Rattle.strip.specs.declared.Made.{Made}
 use Rattle.strip.specs.declared.Made.the-variants.{All, Refused}
-use Rattle.strip.specs.Strip.{plus, minus, Move, refuse, go, choose, indexOp, walkOp, runOp, changeOp, opOf, measured, moveOf, Strip, refused, pixels, onto, decode}
+use Rattle.strip.specs.Strip.{plus, minus, Move, refuse, go, choose, walkOp, runOp, changeOp, opOf, measured, moveOf, Strip, refused, pixels, onto, decode}
 use Rattle.strip.specs.Picture.{shown, codedOf}
 use Rattle.strip.specs.Tally.{madeOf, tally, testOf}
 use Rattle.strip.proofs.PictureLaws.{coded-some}

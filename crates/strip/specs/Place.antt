@@ -1,8 +1,8 @@
 -- A place in the decode of a strip, what comes from it on, and what stepping and painting from place to place come to. A step may take
 -- many operations at once: that what it gives is the decode's is said here, once for both methods.
-use Prim.Native.Nat.{ℕ, zero, suc, _+_, _-_, _/_, _%_, _≤_, _<_}
+use Prim.Native.Nat.{ℕ, _+_, _-_, _/_, _%_, _≤_, _<_}
 use mathlib.Core.Path.{_≡_}
-use mathlib.Core.Bool.{Bool, true, false, cond, _&&_}
+use mathlib.Core.Bool.{Bool, false, cond, _&&_}
 use mathlib.Core.List.{List}
 use lib.ListN.{take, replicate}
 use lib.Dec.{eqb}

@@ -5,7 +5,7 @@ use mathlib.Core.List.{List}
 use Rattle.strip.specs.declared.Made.{Made}
 use Rattle.strip.specs.declared.Made.the-variants.{All, Refused}
 use Rattle.strip.specs.Picture.{Picture, refusal, picture}
-use Rattle.strip.specs.Strip.{Move, refuse, go, moveOf, Strip, refused, pixels}
+use Rattle.strip.specs.Strip.{refuse, go, moveOf, Strip, refused, pixels}
 
 -- all pixels, or the number of the refusal
 abbrev pub madeOf : Strip → Made

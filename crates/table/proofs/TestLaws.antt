@@ -1,18 +1,20 @@
 -- Laws of the test of a whole block: one strip more.
-use mathlib.Core.Path.{_≡_, refl, ap, subst}
+use mathlib.Core.Path.{_≡_, refl, ap}
 use Prim.Native.Nat.{ℕ, zero, suc, _+_}
 use native.Mathlib.Omega.{arith}
-use mathlib.Core.Bool.{Bool}
+use borrow.Author.Tests.{eq-eqb, ne-eqb}
+use mathlib.Core.Bool.{true}
 use mathlib.Core.List.{List}
-use Rattle.strip.specs.Tally.{testOf}
-use Rattle.strip.specs.Strip.{Strip, Filled}
+use Rattle.strip.specs.Tally.{madeOf, testOf}
+use Rattle.strip.specs.Strip.{Strip, refused, pixels}
 use Rattle.strip.specs.Picture.{Picture, refusal, picture, answerOf}
-use Rattle.strip.specs.declared.Made.{Made}
-use Rattle.strip.specs.declared.Answer.the-variants.{Drawn}
 use Rattle.strip.specs.declared.Answer.the-variants as answer
 use Rattle.strip.specs.declared.Made.the-variants.{All}
 use Rattle.strip.specs.declared.Made.the-variants as made
-use Rattle.table.specs.Test.{leftmost, pictureTest, rowsTest}
+use Rattle.plane.specs.Mask.{rowsOf, literals}
+use Rattle.table.specs.Table.{offsetAt}
+use Rattle.table.specs.Body.{bodyOf, rowsAt}
+use Rattle.table.specs.Test.{leftmost, pictureTest, rowsTest, stripTest}
 use Rattle.table.specs.declared.Test.{Test}
 use Rattle.table.specs.declared.Test.the-variants.{Passed, Refused}
 
@@ -44,8 +46,20 @@ pub refused-stops : (p : Picture) (n : ℕ) → answerOf p ≡ answer.Refused n 
 refused-stops (refusal m) n h = ap Refused (let z : n ≡ m = cc in z)
 refused-stops (picture t values) n h = absurd (let z : _≡_ {A = ℕ} 0 1 = cc in omega arith)
 
-pub made-passes : (n : ℕ) (x : Strip) (d e : List ℕ) (r : Made) → r ≡ All → Filled n x d e r → Passed ≡ rowsTest x
-made-passes n x d e r is h = rw ((subst (λ (q : Made). Filled n x d e q) is h) .0)
+pub made-passes : (x : Strip) → madeOf x ≡ All → Passed ≡ rowsTest x
+made-passes (refused n) h = absurd (let z : _≡_ {A = ℕ} 0 1 = cc in omega arith)
+made-passes (pixels values) h = refl
 
-pub unmade-stops : (n : ℕ) (x : Strip) (d e : List ℕ) (m : ℕ) (r : Made) → r ≡ made.Refused m → Filled n x d e r → Refused m ≡ rowsTest x
-unmade-stops n x d e m r is h = rw (subst (λ (q : Made). Filled n x d e q) is h)
+pub unmade-stops : (x : Strip) (n : ℕ) → madeOf x ≡ made.Refused n → Refused n ≡ rowsTest x
+unmade-stops (refused m) n h = ap Refused (let z : n ≡ m = cc in z)
+unmade-stops (pixels values) n h = absurd (let z : _≡_ {A = ℕ} 0 1 = cc in omega arith)
+
+-- a strip of a plane, with no body and with one
+module _ (n h : ℕ) (s : List ℕ) (b z k : ℕ) where
+  pub bodiless-passes : offsetAt true s b k ≡ 0 → Passed ≡ stripTest true n h s b z k
+  unfolding stripTest rowsAt
+  bodiless-passes none = rw (eq-eqb _ _ none)
+
+  pub body-tested : (offsetAt true s b k ≡ 0 → ⊥) → stripTest true n h s b z k ≡ rowsTest (rowsOf (bodyOf true n s b z k) h (literals 0))
+  unfolding stripTest rowsAt
+  body-tested some = rw (ne-eqb _ _ some)

@@ -159,8 +159,10 @@ fn test_rows(room: &[u8], n: usize, h: usize, b: usize, z: usize, k: usize) -> T
     requires { ⌜ tableRight true n (now room) b z ≡ true ⌝ }
     ensures { λ r. ⌜ r ≡ stripTest true n h (now (room .entry)) b z k ⌝ }
 {
-    let mut scratch = [0u8; 200];
-    match read_rows(room, n, h, b, z, k, &mut scratch) {
+    if offset_at(room, true, b, k) == 0 {
+        return Test::Passed;
+    }
+    match plane::test_rows(strip_body(room, true, n, b, z, k), h) {
         Made::All => Test::Passed,
         Made::Refused(number) => Test::Refused(number),
     }

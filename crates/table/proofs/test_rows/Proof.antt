@@ -1,15 +1,32 @@
-use Rattle.table.proofs.TestLaws.{made-passes, unmade-stops}
-use Rattle.table.specs.Test.{stripTest}
-use Prim.Native.Nat.{_-_}
+use Rattle.table.proofs.TestLaws.{made-passes, unmade-stops, bodiless-passes, body-tested}
+use Rattle.table.proofs.BodyLaws.{cell-room}
+use Rattle.table.specs.Body.{bodyOf}
+use Rattle.plane.specs.Mask.{rowsOf, literals}
+use Rattle.strip.specs.Tally.{madeOf}
+use denote.Ref.{now}
+use borrow.Author.Tests.{ne-eqb}
+use native.Mathlib.Omega.{arith}
+use Prim.Native.Nat.{ℕ}
+use mathlib.Core.Path.{sym, ap, _∙_}
+use mathlib.Core.List.{List}
+use mathlib.Core.Bool.{true}
 use borrow.Author.Needs.{needs}
 use Rattle.table.proofs.test_rows.Statement.{statement}
 use Rattle.table.proofs.test_rows.Tie as tie
 
-slice-aggregate-read-rows : tie.Need-slice-aggregate-read-rows
-slice-aggregate-read-rows c = search needs
+offset-at-requires : tie.Need-offset-at-requires
+offset-at-requires c κs = (cell-room true _ _ _ _ _ (c .before .pre .1) (c .before .pre .0 .1) (omega arith) (omega arith), omega arith)
 
-read-rows-requires : tie.Need-read-rows-requires
-read-rows-requires c κs = search needs
+returns : tie.Need-returns
+returns c =
+    let a = c .before .before .before .args in
+    bodiless-passes (a .n) (a .h) (now (a .room)) (a .b) (a .z) (a .k) (sym (c .before .offset-at .ensures .0) ∙ c .if1 .taken)
+
+strip-body-requires : tie.Need-strip-body-requires
+strip-body-requires c κs = (omega arith, (c .before .before .before .pre .1, ne-eqb _ _ (λ e. c .if1 .left (c .before .offset-at .ensures .0 ∙ e))))
+
+test-rows-requires : tie.Need-test-rows-requires
+test-rows-requires c κs = search needs
 
 enum-told : tie.Need-enum-told
 enum-told c = search needs
@@ -17,21 +34,29 @@ enum-told c = search needs
 enum-known-number : tie.Need-enum-known-number
 enum-known-number c = search needs
 
-returns : tie.Need-returns
-unfolding stripTest
-returns c = made-passes _ _ _ _ _ (c .enum-told .given .1) (c .before .before .before .read-rows .ensures)
-
 returns-2 : tie.Need-returns-2
-unfolding stripTest
-returns-2 c = unmade-stops _ _ _ _ _ _ (c .before .number .given .1) (c .before .before .before .before .read-rows .ensures)
+returns-2 c =
+    let a = c .before .before .before .before .before .before .before .args in
+    let body = bodyOf true (a .n) (now (a .room)) (a .b) (a .z) (a .k) in
+    made-passes (rowsOf body (a .h) (literals 0)) (ap (λ (l : List ℕ). madeOf (rowsOf l (a .h) (literals 0))) (sym (c .before .before .before .strip-body .ensures)) ∙ sym (c .before .before .test-rows .ensures) ∙ c .enum-told .given .1)
+    ∙ sym (body-tested (a .n) (a .h) (now (a .room)) (a .b) (a .z) (a .k) (λ e. c .before .before .before .before .if1 .left (c .before .before .before .before .before .offset-at .ensures .0 ∙ e)))
+
+returns-3 : tie.Need-returns-3
+returns-3 c =
+    let a = c .before .before .before .before .before .before .before .before .args in
+    let body = bodyOf true (a .n) (now (a .room)) (a .b) (a .z) (a .k) in
+    unmade-stops (rowsOf body (a .h) (literals 0)) _ (ap (λ (l : List ℕ). madeOf (rowsOf l (a .h) (literals 0))) (sym (c .before .before .before .before .strip-body .ensures)) ∙ sym (c .before .before .before .test-rows .ensures) ∙ c .before .number .given .1)
+    ∙ sym (body-tested (a .n) (a .h) (now (a .room)) (a .b) (a .z) (a .k) (λ e. c .before .before .before .before .before .if1 .left (c .before .before .before .before .before .before .offset-at .ensures .0 ∙ e)))
 
 pub test-rows-spec : {M : Type 1} → statement M
 test-rows-spec =
     tie.close
     (tie.spec
-    slice-aggregate-read-rows
-    read-rows-requires
+    offset-at-requires
+    returns
+    strip-body-requires
+    test-rows-requires
     enum-told
     enum-known-number
-    returns
-    returns-2)
+    returns-2
+    returns-3)

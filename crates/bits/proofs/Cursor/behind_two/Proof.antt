@@ -1,7 +1,7 @@
 use Prim.Native.Nat.{_≤_}
 use lib.Pow.{pow-pos, pow-mono}
-use Prim.Native.Nat.{ℕ, _%_, _/_, _^_, _<_}
-use mathlib.Core.Path.{refl, ap}
+use Prim.Native.Nat.{ℕ, _%_, _/_, _^_}
+use mathlib.Core.Path.{ap}
 use native.Mathlib.Nat.{mod-lt, lt-of-lt-of-le}
 use native.Mathlib.Omega.{arith}
 use Rattle.bits.proofs.CursorLaws.{size-of}

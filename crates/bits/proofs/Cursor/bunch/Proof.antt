@@ -3,7 +3,6 @@ use Rattle.bits.specs.Bits.{wordAt}
 use Prim.Native.Nat.{_+_, _*_, _/_, _-_, _%_, _^_}
 use lib.Pow.{pow-pos}
 use denote.Ref.{now}
-use mathlib.Core.Path.{refl}
 use native.Mathlib.Nat.{mod-lt}
 use native.Mathlib.Omega.{arith}
 use Rattle.bits.proofs.CursorLaws.{size-of, bunch-front, shift-exact, sum-fits, more-held, more-rest}

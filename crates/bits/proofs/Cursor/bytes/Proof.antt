@@ -1,9 +1,8 @@
 use Prim.Native.Nat.{_-_}
 use lib.ListN.{length}
-use denote.Ref.{now}
 use mathlib.Core.Path.{_≡_, refl, _∙_}
 use native.Mathlib.Omega.{arith}
-use Rattle.bits.specs.Bits.{Held, rest, Full}
+use Rattle.bits.specs.Bits.{Held, rest}
 use Rattle.bits.proofs.Cursor.bytes.Statement.{statement}
 use Rattle.bits.proofs.Cursor.bytes.Tie as tie
 use Rattle.bits.proofs.Cursor.bytes.Reads as reads

@@ -1,5 +1,5 @@
 use lib.Pow.{pow-pos}
-use Prim.Native.Nat.{ℕ, _%_, _^_}
+use Prim.Native.Nat.{ℕ, _%_}
 use mathlib.Core.Path.{refl, ap}
 use native.Mathlib.Omega.{arith}
 use Rattle.bits.proofs.CursorLaws.{size-of}

@@ -1,6 +1,6 @@
 use Rattle.strip.proofs.PictureLaws.{five-from}
 use native.Mathlib.Omega.{arith}
-use mathlib.Core.Path.{_≡_, sym, _∙_}
+use mathlib.Core.Path.{sym, _∙_}
 use borrow.Author.Needs.{needs}
 use Rattle.strip.proofs.codes.family.Statement.{statement}
 use Rattle.strip.proofs.codes.family.Tie as tie

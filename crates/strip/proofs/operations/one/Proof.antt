@@ -1,8 +1,5 @@
 use Rattle.strip.proofs.PlaceLaws.{none-stepped, cut-stepped, keep-stepped, op-stepped}
-use Rattle.strip.specs.declared.Next.the-variants.{Go}
-use Rattle.strip.specs.Place.{Stepped}
 use native.Mathlib.Omega.{arith}
-use mathlib.Core.Path.{subst, sym}
 use borrow.Author.Needs.{needs}
 use Rattle.strip.proofs.operations.one.Statement.{statement}
 use Rattle.strip.proofs.operations.one.Tie as tie

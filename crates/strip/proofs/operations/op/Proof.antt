@@ -1,7 +1,3 @@
-use Rattle.strip.specs.Place.{opLength, runAhead, LeadsTo}
-use Prim.Native.Nat.{_≤_}
-use mathlib.Core.Bool.{Bool}
-use mathlib.Core.Path.{subst}
 use Rattle.strip.proofs.operations.op.Statement.{statement}
 use Rattle.strip.proofs.operations.op.Tie as tie
 use Rattle.strip.proofs.operations.op.Reads as reads

@@ -1,6 +1,5 @@
 use Rattle.strip.proofs.PlaceLaws.{run-cut-stepped, run-past-stepped, run-stepped}
 use native.Mathlib.Omega.{arith}
-use mathlib.Core.Path.{refl, subst, sym, ap}
 use borrow.Author.Needs.{needs}
 use Rattle.strip.proofs.operations.run.Statement.{statement}
 use Rattle.strip.proofs.operations.run.Tie as tie

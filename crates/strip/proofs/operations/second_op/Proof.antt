@@ -4,7 +4,7 @@ use Rattle.bits.specs.Bits.{moved}
 use lib.Dec.{eqb}
 use Prim.Native.Nat.{ℕ, _+_, _%_, _/_}
 use mathlib.Core.Bool.{cond}
-use mathlib.Core.Path.{refl, sym, ap, _∙_}
+use mathlib.Core.Path.{refl, ap, _∙_}
 use borrow.Author.Needs.{needs}
 use Rattle.strip.proofs.operations.second_op.Statement.{statement}
 use Rattle.strip.proofs.operations.second_op.Tie as tie

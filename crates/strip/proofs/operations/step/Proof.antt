@@ -1,10 +1,9 @@
 use Rattle.strip.proofs.RowLaws.{first-of, second-of}
-use Rattle.strip.specs.Place.{Stepped, runAhead}
+use Rattle.strip.specs.Place.{Stepped}
 use Prim.Native.Nat.{_%_}
 use lib.Dec.{eqb}
 use mathlib.Core.Bool.{Bool}
 use mathlib.Core.Path.{subst}
-use mathlib.Core.Bool.{true, false}
 use mathlib.Core.Path.{sym, _∙_}
 use borrow.Author.Needs.{needs}
 use Rattle.strip.proofs.operations.step.Statement.{statement}

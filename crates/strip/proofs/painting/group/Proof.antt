@@ -4,9 +4,8 @@ use Rattle.strip.proofs.FillLaws.{fill-part}
 use Rattle.strip.specs.Place.{Advances, opLength}
 use Rattle.strip.specs.declared.State.{State}
 use denote.Ref.{now}
-use Prim.Native.Nat.{ℕ, _%_, _≤_}
+use Prim.Native.Nat.{_%_, _≤_}
 use native.Mathlib.Omega.{arith}
-use mathlib.Core.Bool.{Bool}
 use mathlib.Core.Path.{_≡_, sym, ap, subst, _∙_}
 use borrow.Author.Needs.{needs}
 use Rattle.strip.proofs.painting.group.Statement.{statement}

@@ -1,5 +1,4 @@
 use Rattle.strip.proofs.PlaceLaws.{advances-kept, advances-on}
-use Rattle.strip.specs.Place.{Advances}
 use denote.Ref.{now}
 use native.Mathlib.Omega.{arith}
 use borrow.Author.Needs.{needs}

@@ -1,11 +1,11 @@
 use Rattle.strip.proofs.PlaceLaws.{paint-start, paint-end, paint-no, turned-as}
 use Rattle.strip.specs.Place.{Painted}
-use Rattle.strip.specs.Strip.{Strip, decode, glue}
+use Rattle.strip.specs.Strip.{decode, glue}
 use Rattle.bits.specs.Bits.{bitsOf, Held}
 use lib.ListN.{length, getD, drop, set, take, length-set}
 use denote.Ref.{now}
 use borrow.Author.Needs.{needs}
-use Prim.Native.Nat.{ℕ, _-_, _≤_, _<_}
+use Prim.Native.Nat.{_-_, _≤_}
 use native.Mathlib.Nat.{le-antisymm}
 use native.Mathlib.Omega.{arith}
 use mathlib.Core.List.{List}

@@ -1,7 +1,6 @@
 use Rattle.strip.proofs.PlaceLaws.{turned-many, turned-one, turned-no, stepped-as}
 use denote.Ref.{now}
 use native.Mathlib.Omega.{arith}
-use mathlib.Core.Path.{_≡_}
 use borrow.Author.Needs.{needs}
 use Rattle.strip.proofs.painting.turn.Statement.{statement}
 use Rattle.strip.proofs.painting.turn.Tie as tie

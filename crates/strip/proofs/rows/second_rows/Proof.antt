@@ -1,7 +1,7 @@
 use Rattle.strip.proofs.RowLaws.{rightRows, fitRows, rows-right}
 use Rattle.strip.specs.Look.{look}
 use Rattle.bits.specs.Bits.{lowBits}
-use mathlib.Core.Bool.{true, false}
+use mathlib.Core.Bool.{true}
 use mathlib.Core.Path.{refl}
 use Rattle.strip.proofs.rows.second_rows.Statement.{statement}
 use Rattle.strip.proofs.rows.second_rows.Tie as tie

@@ -4,11 +4,11 @@ use Rattle.bits.specs.Bits.{bitsOf, rest, Held}
 use lib.ListN.{drop}
 use denote.Ref.{now}
 use borrow.Author.Needs.{needs}
-use Prim.Native.Nat.{ℕ, _-_, _≤_, _<_}
+use Prim.Native.Nat.{_-_, _≤_}
 use native.Mathlib.Omega.{arith}
 use mathlib.Core.List.{List}
 use mathlib.Core.Bool.{Bool}
-use mathlib.Core.Path.{_≡_, refl, sym, ap, _∙_}
+use mathlib.Core.Path.{_≡_, sym, ap, _∙_}
 use Rattle.strip.proofs.test.test_bits.Statement.{statement}
 use Rattle.strip.proofs.test.test_bits.Tie as tie
 use Rattle.strip.proofs.test.test_bits.Reads as reads

@@ -6,7 +6,7 @@ use denote.Ref.{now}
 use lib.ListN.{drop}
 use Prim.Native.Nat.{_*_}
 use mathlib.Core.Bool.{Bool}
-use mathlib.Core.Path.{sym, ap, _∙_, subst}
+use mathlib.Core.Path.{sym, ap, _∙_}
 use borrow.Author.Needs.{needs}
 use Rattle.strip.proofs.test.test_coded.Statement.{statement}
 use Rattle.strip.proofs.test.test_coded.Tie as tie
