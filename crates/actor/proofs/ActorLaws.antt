@@ -56,16 +56,11 @@ one-plane w h n clip x y a b whole hx hy same = rw (same (x / 8) y (omega arith)
 -- ---- the numbers of the question's answers
 pub number-answered : (k : ℕ) (b : Bool) → number (answered k b) ≡ k
 unfolding answered
-number-answered k b = by-cases (ℕ-discrete k 0) (λ e. rw (eq-eqb k 0 e) (cases b e)) (λ e. rw (ne-eqb k 0 e))
-  where
-    cases : (b : Bool) → k ≡ 0 → number (answered 0 b) ≡ k
-    cases true e = sym e
-    cases false e = sym e
+number-answered k b = by-cases (ℕ-discrete k 0) (λ e. rw (eq-eqb k 0 e) (sym e)) (λ e. rw (ne-eqb k 0 e))
 
 pub hides-answered : (b : Bool) → hides (answered 0 b) ≡ b
 unfolding answered
-hides-answered true = refl
-hides-answered false = refl
+hides-answered b = refl
 
 -- ---- the stamp
 module _ (frame masks picture : List ℕ) (w h n width height clear : ℕ) (x y : ℤ) (clip : ℕ) where

@@ -6,7 +6,7 @@ use lib.Dec.{leb, ltb, eqb}
 use lib.ListN.{getD}
 use Rattle.actor.specs.Sizes.{unless, sizesFit, maskBytes}
 use Rattle.actor.specs.declared.Answer.{Answer}
-use Rattle.actor.specs.declared.Answer.the-variants.{Refused, Shown, Hidden}
+use Rattle.actor.specs.declared.Answer.the-variants.{Refused, Hidden}
 
 -- where the masks have plane k, strip s, row y of a room of w by h
 abbrev pub maskPlace : (w h k s y : ℕ) → ℕ
@@ -24,18 +24,16 @@ hiddenAt masks w h n clip x y = leb 1 clip && (leb clip n && eqb (maskBit masks 
 unfoldable pub hiddenNumber : (masks w h n x y : ℕ) → ℕ
 hiddenNumber masks w h n x y = unless (sizesFit w h n) 3 (unless (leb (maskBytes w h n) masks) 4 (unless (ltb x w && ltb y h) 14 0))
 
--- document 01's number for each case of an answer: both answers are accepted
+-- document 01's number for each case of an answer: hidden or not, the question is accepted
 abbrev pub number : Answer → ℕ
 number (Refused n) = n
-number Shown = 0
-number Hidden = 0
+number (Hidden is) = 0
 
 -- whether an answer says that the pixel is hidden
 abbrev pub hides : Answer → Bool
 hides (Refused n) = false
-hides Shown = false
-hides Hidden = true
+hides (Hidden is) = is
 
 -- the answer of number n where the pixel is hidden or not
 unfoldable pub answered : ℕ → Bool → Answer
-answered n is = cond (eqb n 0) (cond is Hidden Shown) (Refused n)
+answered n is = cond (eqb n 0) (Hidden is) (Refused n)

@@ -10,11 +10,11 @@ ghost use lib.ListN.{length};
 ghost use Rattle.actor.specs.Hidden.{hiddenAt, hiddenNumber, answered, number};
 ghost use Rattle.actor.specs.Stamp.{stampNumber, stampFrame};
 
-// The answer to "is this pixel hidden": document 01's number, or one of the two answers.
+// The answer to "is this pixel hidden": document 01's number, or whether it is. The bit is handed on as it is, since a branch on it
+// could not be predicted.
 pub enum Answer {
     Refused(u8),
-    Shown,
-    Hidden,
+    Hidden(bool),
 }
 
 // The picture index that is never written.
@@ -34,11 +34,7 @@ pub fn hidden(masks: &[u8], w: u32, h: u32, n: u32, clip: u32, x: u32, y: u32) -
     if refusal != 0 {
         return Answer::Refused(refusal);
     }
-    if mask::hidden_at(masks, w, h, n, clip as usize, x, y) {
-        Answer::Hidden
-    } else {
-        Answer::Shown
-    }
+    Answer::Hidden(mask::hidden_at(masks, w, h, n, clip as usize, x, y))
 }
 
 // Stamps an actor's picture of width by height, its corner at (x, y), on a frame of w by h, behind the plane that the clip level names.

@@ -1,4 +1,5 @@
 -- An answer as one u64 for a C host: document 01's number in the low 32 bits, the value in the high 32. A refused call has the value 0.
+use mathlib.Core.Bool.{cond}
 use Prim.Native.Nat.{ℕ, _+_, _*_}
 use Rattle.actor.specs.declared.Answer.{Answer}
 use Rattle.actor.specs.declared.Answer.the-variants as answer
@@ -18,8 +19,7 @@ valued value = value * 4294967296
 -- the hidden-pixel question: value 1 where the pixel is hidden, else 0
 abbrev pub hiddenWord : Answer → ℕ
 hiddenWord (answer.Refused n) = n
-hiddenWord answer.Shown = 0
-hiddenWord answer.Hidden = valued 1
+hiddenWord (answer.Hidden is) = cond is (valued 1) 0
 
 -- a start: value 1 where the animation is defined, else 0
 abbrev pub startedWord : Started → ℕ

@@ -179,8 +179,7 @@ pub extern "C" fn kg_hidden(masks: &[u8], w: u32, h: u32, n: u32, clip: u32, x: 
 {
     match actor::hidden(masks, w, h, n, clip, x, y) {
         Answer::Refused(number) => number as u64,
-        Answer::Shown => 0,
-        Answer::Hidden => 4294967296,
+        Answer::Hidden(is) => if is { 4294967296 } else { 0 }
     }
 }
 

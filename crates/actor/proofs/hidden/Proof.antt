@@ -1,5 +1,5 @@
 -- `actor::hidden` meets its contract. Assumes nothing.
-use Rattle.actor.proofs.AnswerLaws.{is-refused, is-hidden, is-shown}
+use Rattle.actor.proofs.AnswerLaws.{is-refused, is-told}
 use Rattle.actor.proofs.SizeLaws.{hidden-accepted}
 use mathlib.Core.Path.{sym, _∙_}
 use borrow.Author.Needs.{needs}
@@ -16,11 +16,7 @@ hidden-at-requires : tie.Need-hidden-at-requires
 hidden-at-requires c κs = hidden-accepted _ _ _ _ _ _ (sym (c .before .hidden-number .ensures) ∙ c .if1 .left)
 
 returns-2 : tie.Need-returns-2
-returns-2 c = (is-hidden _ _ _ (c .before .before .before .hidden-number .ensures) (c .before .before .if1 .left) (sym (c .before .hidden-at .ensures) ∙ c .if2 .taken), sym (c .before .before .if1 .left) ∙ c .before .before .before .hidden-number .ensures)
-
-returns-3 : tie.Need-returns-3
-returns-3 c = (is-shown _ _ _ (c .before .before .before .hidden-number .ensures) (c .before .before .if1 .left) (sym (c .before .hidden-at .ensures) ∙ c .if2 .left), sym (c .before .before .if1 .left) ∙ c .before .before .before .hidden-number .ensures)
+returns-2 c = (is-told _ _ _ (c .before .before .hidden-number .ensures) (c .before .if1 .left) (c .hidden-at .result) (c .hidden-at .ensures), sym (c .before .if1 .left) ∙ c .before .before .hidden-number .ensures)
 
 pub hidden-spec : {M : Type 1} → statement M
-hidden-spec =
-    tie.close (tie.spec hidden-number-requires returns hidden-at-requires returns-2 returns-3)
+hidden-spec = tie.close (tie.spec hidden-number-requires returns hidden-at-requires returns-2)
