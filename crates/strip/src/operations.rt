@@ -12,7 +12,7 @@ use crate::State;
 use std::num::wrapping_add_u8;
 use std::num::wrapping_sub_u8;
 
-// One of two values, without a branch.
+// One of two values. A value that is chosen so needs no branch, which a picture's operations would make unpredictable.
 fn either(test: bool, a: u8, b: u8) -> u8
     ensures { λ r. ⌜ r ≡ cond test a b ⌝ }
 {
@@ -43,7 +43,7 @@ fn length_of(second: bool, w: u32, hand: u64) -> u32
     if second { 5 } else { 3 }
 }
 
-// Whether a run of the second method stands ahead.
+// Whether a run of the second method stands ahead: `11` and d = 4, which from bit 0 up is 19.
 pub(crate) fn run_at(second: bool, hand: u64) -> bool
     ensures { λ r. ⌜ r ≡ runAhead second hand ⌝ }
 {

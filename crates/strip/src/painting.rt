@@ -56,7 +56,8 @@ fn groups(second: bool, w: u32, st: State, out: &mut [u8]) -> State
     group(second, w, b, out)
 }
 
-// As many operations as the bits in hand and the pixels left allow, or one.
+// As many operations as the bits in hand and the pixels left allow, or one. A group has at most eight keeps and an operation of ten bits: 18 bits,
+// nine pixels.
 fn turn(body: &[u8], second: bool, w: u32, total: usize, from: State, out: &mut [u8]) -> Next
     requires { ⌜ (w ≤ 8) × Held (now body) (from .cur) × (from .i < total) × (total ≤ 1600) × (total ≤ length (now out)) ⌝ }
     ensures { λ r. ⌜ Turned second w total (now (body .entry)) from (now (out .entry)) (now (out .exit)) r ⌝ }

@@ -73,7 +73,7 @@ fn looks(rows: &[u16], w: u32, st: State) -> State
     past(rows, w, two)
 }
 
-// Past as many operations as the bits in hand and the pixels left allow, or past one.
+// Past as many operations as the bits in hand and the pixels left allow, or past one. A row takes at most eight bits and an index of ten.
 fn turn(body: &[u8], second: bool, w: u32, total: usize, rows: &[u16], from: State) -> Next
     requires { ⌜ (w ≤ 8) × Held (now body) (from .cur) × (from .i < total) × (total ≤ 1600) × (256 ≤ length (now rows)) × Rows second (now rows) ⌝ }
     ensures { λ r. ⌜ Tested second w total (now (body .entry)) from r ⌝ }
@@ -94,7 +94,7 @@ fn turn(body: &[u8], second: bool, w: u32, total: usize, rows: &[u16], from: Sta
     step(second, w, total, st)
 }
 
-// The test of the operations of a body, whose first colour is pixel 0.
+// The test of the operations of a body, whose first colour is pixel 0. No refusal depends on a colour or a step, so any will do.
 pub(crate) fn test_bits(body: &[u8], second: bool, w: u32, total: usize, rows: &[u16]) -> Made
     requires { ⌜ (w ≤ 8) × (1 ≤ total) × (total ≤ 1600) × (2 ≤ length (now body)) × (256 ≤ length (now rows)) × Rows second (now rows) ⌝ }
     ensures { λ r. ⌜ r ≡ tally second w total 1 (bitsOf (drop 2 (now (body .entry)))) ⌝ }
