@@ -25,7 +25,7 @@ paint-strip-requires : tie.Need-paint-strip-requires Inv-loop μ-loop
 paint-strip-requires c κs =
     let passed = c .before .before .before .before .before .pre .1 .0 in (
       (omega arith, omega arith, omega arith, omega arith, omega arith),
-      (block-table _ _ _ _ _ _ passed, (block-strip _ _ _ _ _ _ passed _ (c .before .loop-test .taken), omega arith)),
+      (block-table _ _ _ _ _ _ passed, (block-strip _ _ _ _ _ _ passed _ (omega arith), omega arith)),
     )
 
 add-k : tie.Need-add-k Inv-loop μ-loop
