@@ -1,7 +1,7 @@
 -- Laws of the block tree: what a walk over a list of blocks gives at a block, and where no block stands.
 use mathlib.Core.Path.{_≡_, refl, ap, sym, _∙_, subst, subst⁻¹}
 use mathlib.Core.List.{List, [], _∷_}
-use mathlib.Core.Bool.{Bool, true, false, _&&_, cond, not, true≢false}
+use mathlib.Core.Bool.{Bool, true, false, _&&_, cond, true≢false}
 use Prim.Native.Nat.{ℕ, zero, suc, _+_, _-_, _≤_, _<_}
 use native.Mathlib.Omega.{arith}
 use native.Mathlib.Numerals.{sub-one}
@@ -244,19 +244,10 @@ module _ (t : ℕ) (s : List ℕ) (e a z : ℕ) (ends : z ≡ blockEnd s a e) (k
     pub nth-on : (n ≡ t → ⊥) → nthTag t s z e k ≡ nthTag t s a e k
     nth-on h = rw (tagged-on t s e a z ends f n read h)
 
--- a room that is well formed has a header
-pub formed-long : (s : List ℕ) → wellFormed s ≡ true → 8 ≤ length s
-unfolding wellFormed
-formed-long s h = leb-true 8 (length s) (and-right (leb (length s) 1048576) _ (and-left _ _ (and-left _ _ (and-left _ (blockOk 6 s 0 (length s)) h))))
-
--- and is not over the size
+-- a room that is well formed is not over the size
 pub formed-small : (s : List ℕ) → wellFormed s ≡ true → length s ≤ 1048576
 unfolding wellFormed
 formed-small s h = leb-true (length s) 1048576 (and-left (leb (length s) 1048576) _ (and-left _ _ (and-left _ _ (and-left _ (blockOk 6 s 0 (length s)) h))))
-
-pub not-not : (b c : Bool) → b ≡ not c → b ≡ false → c ≡ true
-not-not b true h g = refl
-not-not b false h g = absurd (true≢false (sym h ∙ g))
 
 -- every block with a tag has another in it, from the tests that the code makes at the block [a, z)
 module _ (t ch m : ℕ) (s : List ℕ) (e a z : ℕ) (ends : z ≡ blockEnd s a e) where
