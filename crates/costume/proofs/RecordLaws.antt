@@ -2,27 +2,19 @@
 use mathlib.Core.Path.{_≡_, refl, sym, ap, ap₂, _∙_}
 use mathlib.Core.Bool.{Bool, true, false, cond}
 use mathlib.Core.List.{List}
-use mathlib.Core.Logic.{by-cases}
-use Prim.Native.Nat.{ℕ, suc, _+_, _-_, _/_, _%_, _<_, _≤_}
-use native.Mathlib.Decide.{decLt}
+use Prim.Native.Nat.{ℕ, suc, _+_, _/_, _%_, _<_, _≤_}
 use native.Mathlib.Omega.{arith}
 use borrow.Author.Tests.{le-leb, lt-leb, leb-true}
 use lib.Dec.{leb, eqb}
 use lib.ListN.{length, getD}
 use Rattle.number.specs.Number.{le16}
-use Rattle.costume.specs.declared.Limb.{Limb}
+use Rattle.limbs.specs.declared.Limb.{Limb}
+use Rattle.limbs.specs.Limb.{all, limbRight}
+use Rattle.limbs.proofs.LimbLaws.{and-both, all-false, all-at, right-idle, right-from}
+use Rattle.limbs.proofs.AfterLaws.{Bytes, Small}
 use Rattle.costume.specs.declared.Entry.{Entry}
 use Rattle.costume.specs.declared.Entry.the-variants.{Unnamed, Cut, Idle, Window}
-use Rattle.costume.specs.Limb.{all, limbRight}
 use Rattle.costume.specs.Record.{entryAt, sizeOf, maskOf, entryPlace, entryOf, entryRight, recordRight, named, resetLimb, begunLimb}
-use Rattle.costume.proofs.LimbLaws.{and-both, all-false, all-at, right-idle, right-from}
-use Rattle.costume.proofs.AfterLaws.{Bytes, Small}
-
--- a sum tested as a difference
-pub as-difference : (a b n : ℕ) → b ≤ n → leb a (n - b) ≡ leb (a + b) n
-as-difference a b n h =
-    by-cases (decLt (n - b) a) (λ g. rw (lt-leb a (n - b) g, lt-leb (a + b) n (omega arith)))
-    (λ g. rw (le-leb a (n - b) (omega arith), le-leb (a + b) n (omega arith)))
 
 -- ---- the record at payload byte r
 module _ (s : List ℕ) (r : ℕ) where

@@ -7,12 +7,12 @@ use native.Mathlib.Omega.{arith}
 use borrow.Author.Tests.{lt-ltb, le-ltb, le-leb, lt-leb, leb-true, ltb-true, ltb-false, eq-eqb, ne-eqb}
 use lib.Dec.{ltb, leb, eqb}
 use lib.ListN.{length, length-drop}
+use Rattle.limbs.specs.Limb.{limbsRight, eachLimb}
+use Rattle.limbs.specs.Tick.{commandRight, stream}
+use Rattle.limbs.proofs.LimbLaws.{and-both}
 use Rattle.costume.specs.declared.Started.the-variants.{Set, Undefined, Refused}
-use Rattle.costume.specs.Limb.{limbsRight, eachLimb}
-use Rattle.costume.specs.Tick.{commandRight, stream}
 use Rattle.costume.specs.Record.{maskOf, entryOf, recordRight, begunLimb}
 use Rattle.costume.specs.Start.{recordNumber, offsetAt, numbersRight, noRecord, offsetRight, defined, startNumber, startedOf, startBytes}
-use Rattle.costume.proofs.LimbLaws.{and-both}
 use Rattle.costume.proofs.RecordLaws.{record-in}
 
 -- ---- the numbers of a call

@@ -1,4 +1,2 @@
-pub mod Limb
-pub mod Tick
 pub mod Record
 pub mod Start

@@ -7,10 +7,10 @@ use Prim.Native.Nat.{ℕ, zero, suc, _+_, _-_, _/_, _%_, _^_}
 use lib.ListN.{length, getD}
 use lib.Dec.{leb, eqb}
 use Rattle.number.specs.Number.{le16}
-use Rattle.costume.specs.declared.Limb.{Limb}
+use Rattle.limbs.specs.declared.Limb.{Limb}
+use Rattle.limbs.specs.Limb.{all}
 use Rattle.costume.specs.declared.Entry.{Entry}
 use Rattle.costume.specs.declared.Entry.the-variants.{Unnamed, Cut, Idle, Window}
-use Rattle.costume.specs.Limb.{all}
 
 -- the mask names limb i
 abbrev pub named : ℕ → ℕ → Bool

@@ -5,10 +5,10 @@ use Prim.Native.Nat.{ℕ, _+_, _-_, _*_}
 use lib.ListN.{length}
 use lib.Dec.{ltb, leb, eqb}
 use Rattle.number.specs.Number.{le16}
+use Rattle.limbs.specs.Limb.{limbsRight, eachLimb}
+use Rattle.limbs.specs.Tick.{commandRight, stream}
 use Rattle.costume.specs.declared.Started.{Started}
 use Rattle.costume.specs.declared.Started.the-variants.{Set, Undefined, Refused}
-use Rattle.costume.specs.Limb.{limbsRight, eachLimb}
-use Rattle.costume.specs.Tick.{commandRight, stream}
 use Rattle.costume.specs.Record.{maskOf, entryOf, recordRight, begunLimb}
 
 -- the number of the record, and the offset that the table stores for it

@@ -1,34 +1,14 @@
-// Costume animation (document 01, "Actors, points, limbs"): starting an animation, a tick, and whether a limb draws.
-// The caller lends the 16 limbs as bytes, 16 to a limb. Each call tests all that it is given, answers a refusal first, and writes only then.
-mod limbs;
+// The start of a costume's animation (document 01, "Actors, points, limbs"): the offset table, the record that it leads to, and the limbs that
+// the record sets. The call tests all that it is given, answers a refusal first, and writes only then.
 mod record;
 mod table;
-mod ticking;
 
 ghost use mathlib.Core.Path.{_≡_};
-ghost use Rattle.costume.specs.Limb.{drawnOf, drawnNumber, drawsNumber};
-ghost use Rattle.costume.specs.Tick.{tickNumber, tickBytes};
 ghost use Rattle.costume.specs.Start.{startNumber, startedOf, startBytes, startedNumber};
-use crate::limbs::draw;
-use crate::limbs::limb_at;
 use crate::record::begin_limbs;
 use crate::table::is_defined;
 use crate::table::offset_at;
 use crate::table::start_number;
-use crate::ticking::tick_limbs;
-use crate::ticking::tick_number;
-
-// A limb as its bytes give it; start and place are indexes into the command stream.
-pub struct Limb {
-    pub active: u8,
-    pub stopped: u8,
-    pub noloop: u8,
-    pub shows: u8,
-    pub picture: u8,
-    pub len: u8,
-    pub start: usize,
-    pub place: usize,
-}
 
 // What a record says of one limb.
 pub enum Entry {
@@ -49,14 +29,6 @@ pub enum Started {
     Undefined,
     // Document 01's number.
     Refused(u8),
-}
-
-// What the question whether a limb draws answers.
-pub enum Drawn {
-    // Document 01's number.
-    Refused(u8),
-    Nothing,
-    Picture(u8),
 }
 
 // Starts the animation of a chore for a facing: the table of count offsets stands at payload byte table.
@@ -91,33 +63,4 @@ pub fn start(
     }
     begin_limbs(payload, offset - 6, limbs);
     Started::Set
-}
-
-// One tick of all limbs: 0, 4 or 15.
-pub fn tick(payload: &[u8], limbs: &mut [u8], command: u32) -> u32
-    ensures number { λ r. ⌜ r ≡ tickNumber (now (payload .entry)) (now (limbs .entry)) command ⌝ }
-    ensures bytes { λ _. ⌜ now (limbs .exit) ≡ tickBytes (now (payload .entry)) (now (limbs .entry)) command ⌝ }
-{
-    let v = command as usize;
-    let number = tick_number(payload, &limbs[..], v);
-    if number != 0 {
-        return number;
-    }
-    tick_limbs(payload, v - 6, limbs);
-    0
-}
-
-// The question whether a limb draws, as a host asks it: 4 for too few bytes, then 15 for a limb number above 15.
-pub fn limb_draws(limbs: &[u8], limb: u32) -> Drawn
-    ensures answer { λ r. ⌜ r ≡ drawnOf (now (limbs .entry)) limb ⌝ }
-    ensures number { λ r. ⌜ drawnNumber r ≡ drawsNumber (now (limbs .entry)) limb ⌝ }
-{
-    if limbs.len() < 256 {
-        return Drawn::Refused(4);
-    }
-    if 15 < limb {
-        return Drawn::Refused(15);
-    }
-    let x = limb_at(limbs, limb as usize);
-    draw(x)
 }

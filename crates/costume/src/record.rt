@@ -2,13 +2,13 @@
 ghost use mathlib.Core.Path.{_≡_};
 ghost use Prim.Native.Nat.{_+_, _^_, _<_, _≤_};
 ghost use lib.ListN.{length};
-ghost use Rattle.costume.specs.Limb.{eachLimb};
+ghost use Rattle.limbs.specs.Limb.{eachLimb};
 ghost use Rattle.costume.specs.Record.{entryAt, sizeOf, entryOf, entryRight, recordRight, resetLimb, begunLimb};
 use crate::Entry;
-use crate::Limb;
-use crate::limbs::limb_at;
-use crate::limbs::put_limb;
-use crate::limbs::window_right;
+use limbs::Limb;
+use limbs::bytes::limb_at;
+use limbs::bytes::put_limb;
+use limbs::bytes::window_right;
 use number::read_le16;
 use number::wide;
 

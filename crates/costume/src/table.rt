@@ -4,9 +4,9 @@ ghost use mathlib.Core.Bool.{false};
 ghost use Prim.Native.Nat.{_+_, _-_, _*_, _<_, _≤_};
 ghost use lib.ListN.{length};
 ghost use Rattle.costume.specs.Start.{noRecord, offsetAt, numbersRight, offsetRight, defined, startNumber};
-use crate::limbs::limbs_right;
 use crate::record::record_right;
-use crate::ticking::command_right;
+use limbs::bytes::limbs_right;
+use limbs::ticking::command_right;
 use number::read_le16;
 
 // Whether chore and direction name a record of a table that lies in the payload.

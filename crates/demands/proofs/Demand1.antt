@@ -14,7 +14,8 @@ use Rattle.room.specs.declared.Place.the-variants as place
 use Rattle.room.proofs.TestLaws.{test-passes, surfaces-long}
 use Rattle.actor.proofs.ActorLaws.{refused-keeps}
 use Rattle.blocks.specs.Call.{number, Outcome, refused, written, smapOutcome, planeOutcome, answerOf, targetAfter}
-use Rattle.costume.proofs.Theorems.{start-unchanged, tick-unchanged}
+use Rattle.costume.proofs.Theorems.{start-unchanged}
+use Rattle.limbs.proofs.Theorems.{tick-unchanged}
 use Rattle.load.specs.Load.{sessionAfter, pixelsAfter, masksAfter}
 use Rattle.scene.specs.Painting.{Room, Surfaces}
 use Rattle.scene.specs.Session.{Call, make, takeBack, State, called}

@@ -15,7 +15,7 @@ use Rattle.room.specs.Record.{recordTest, recordAfter}
 use Rattle.room.specs.Object.{placeNumber, headerCall, headerAfter}
 use Rattle.actor.specs.Stamp.{stampNumber, stampFrame}
 use Rattle.costume.specs.Start.{startNumber, startBytes}
-use Rattle.costume.specs.Tick.{tickNumber, tickBytes}
+use Rattle.limbs.specs.Tick.{tickNumber, tickBytes}
 use Rattle.blocks.specs.Call.{number, smapOutcome, planeOutcome, answerOf, targetAfter}
 use Rattle.scene.specs.Session.{Call}
 use Rattle.play.specs.Bytes as play

@@ -5,8 +5,8 @@ use Rattle.actor.specs.declared.Answer.{Answer}
 use Rattle.actor.specs.declared.Answer.the-variants as answer
 use Rattle.costume.specs.declared.Started.{Started}
 use Rattle.costume.specs.declared.Started.the-variants as started
-use Rattle.costume.specs.declared.Drawn.{Drawn}
-use Rattle.costume.specs.declared.Drawn.the-variants as drawn
+use Rattle.limbs.specs.declared.Drawn.{Drawn}
+use Rattle.limbs.specs.declared.Drawn.the-variants as drawn
 use Rattle.blocks.specs.declared.Wrote.{Wrote}
 use Rattle.blocks.specs.declared.Wrote.the-variants as wrote
 use Rattle.point.specs.declared.Pointed.{Pointed}

@@ -5,9 +5,9 @@ ghost use lib.ListN.{length};
 ghost use Rattle.actor.specs.Hidden.{hiddenAt, hiddenNumber, answered};
 ghost use Rattle.actor.specs.Stamp.{stampNumber, stampFrame};
 ghost use Rattle.blocks.specs.Call.{smapOutcome, planeOutcome, answerOf, targetAfter};
-ghost use Rattle.costume.specs.Limb.{drawnOf};
 ghost use Rattle.costume.specs.Start.{startedOf, startBytes};
-ghost use Rattle.costume.specs.Tick.{tickNumber, tickBytes};
+ghost use Rattle.limbs.specs.Limb.{drawnOf};
+ghost use Rattle.limbs.specs.Tick.{tickNumber, tickBytes};
 ghost use Rattle.scene.specs.Session.{make, takeBack};
 ghost use Rattle.scene.specs.declared.Place.the-variants as place;
 ghost use Rattle.scene.specs.declared.Step.the-variants as step;
@@ -21,8 +21,8 @@ ghost use Rattle.room.specs.Name.{namePlace, placeWord, nameNumber};
 ghost use Rattle.load.specs.Load.{loadTest, pixelsAfter, masksAfter, sessionAfter};
 use actor::Answer;
 use blocks::Wrote;
-use costume::Drawn;
 use costume::Started;
+use limbs::Drawn;
 use point::Pointed;
 use scene::Place;
 use scene::Step;
@@ -231,7 +231,7 @@ pub extern "C" fn kg_tick(payload: &[u8], limbs: &mut [u8], command: u32) -> u32
     ensures { λ n. ⌜ n ≡ tickNumber (now (payload .entry)) (now (limbs .entry)) command ⌝ }
     ensures { λ _. ⌜ now (limbs .exit) ≡ tickBytes (now (payload .entry)) (now (limbs .entry)) command ⌝ }
 {
-    costume::tick(payload, limbs, command)
+    limbs::tick(payload, limbs, command)
 }
 
 // Whether a limb draws, and its picture.
@@ -239,7 +239,7 @@ pub extern "C" fn kg_tick(payload: &[u8], limbs: &mut [u8], command: u32) -> u32
 pub extern "C" fn kg_limb_draws(limbs: &[u8], limb: u32) -> u64
     ensures { λ r. ⌜ r ≡ drawnWord (drawnOf (now (limbs .entry)) limb) ⌝ }
 {
-    match costume::limb_draws(limbs, limb) {
+    match limbs::limb_draws(limbs, limb) {
         Drawn::Refused(number) => number as u64,
         Drawn::Nothing => 0,
         Drawn::Picture(picture) => (256 + (picture as u64)) * 4294967296,

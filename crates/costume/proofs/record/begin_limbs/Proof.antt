@@ -5,10 +5,10 @@ use native.Mathlib.Omega.{arith}
 use native.Mathlib.Numerals.{add-one}
 use Prim.Native.Nat.{_+_, _-_, _*_, _≤_}
 use mathlib.Core.Path.{_≡_, refl, ap, _∙_}
+use Rattle.limbs.proofs.LimbLaws.{each-more}
+use Rattle.limbs.specs.Limb.{eachLimb}
 use Rattle.costume.proofs.RecordLaws.{entry-read, place-more}
-use Rattle.costume.proofs.LimbLaws.{each-more}
 use Rattle.costume.specs.Record.{maskOf, entryPlace, entryOf, begunLimb}
-use Rattle.costume.specs.Limb.{eachLimb}
 use Rattle.costume.proofs.record.begin_limbs.Statement.{statement}
 use Rattle.costume.proofs.record.begin_limbs.Tie as tie
 

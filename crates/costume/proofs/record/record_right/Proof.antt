@@ -7,10 +7,10 @@ use native.Mathlib.Numerals.{add-one}
 use Prim.Native.Nat.{_+_, _-_, _*_, _≤_}
 use mathlib.Core.Bool.{true}
 use mathlib.Core.Path.{_≡_, refl, sym, ap, _∙_}
+use Rattle.limbs.proofs.LimbLaws.{all-more}
+use Rattle.limbs.specs.Limb.{all}
 use Rattle.costume.proofs.RecordLaws.{entry-read, place-more, record-cut, record-wrong, record-right}
-use Rattle.costume.proofs.LimbLaws.{all-more}
 use Rattle.costume.specs.Record.{maskOf, entryPlace, entryOf, entryRight}
-use Rattle.costume.specs.Limb.{all}
 use Rattle.costume.proofs.record.record_right.Statement.{statement}
 use Rattle.costume.proofs.record.record_right.Tie as tie
 

@@ -3,8 +3,8 @@ use mathlib.Core.Path.{sym, _∙_}
 use borrow.Author.Tests.{not-true, not-false}
 use native.Mathlib.Omega.{arith}
 use borrow.Author.Needs.{needs}
+use Rattle.limbs.proofs.TickLaws.{command-in}
 use Rattle.costume.proofs.StartLaws.{start-short, start-numbers, start-command, start-limbs, start-offset, numbers-in}
-use Rattle.costume.proofs.TickLaws.{command-in}
 use Rattle.costume.proofs.table.start_number.Statement.{statement}
 use Rattle.costume.proofs.table.start_number.Tie as tie
 

@@ -1,0 +1,5 @@
+pub mod LimbLaws
+pub mod AfterLaws
+pub mod TickLaws
+pub mod Theorems
+pub mod Examples

@@ -1,0 +1,2 @@
+pub mod Limb
+pub mod Tick
