@@ -1,4 +1,3 @@
 pub mod PointLaws
 pub mod TableLaws
 pub mod CallLaws
-pub mod LinksSuffice

@@ -24,9 +24,12 @@ use Rattle.session.specs.declared.Spot as session
 use Rattle.session.specs.Plans.{IsAt, sceneAfter}
 use Rattle.session.specs.Tables.{cellOf, tabled}
 use Rattle.session.proofs.TablesLaws.{cell-row}
-use Rattle.point.specs.Objects.{Objects, cdhdByte, objectsOf}
-use Rattle.point.specs.Point.{stateOf, left, top, spans, holds, lets, isOpen, hit, lowest, objectAt}
-use Rattle.point.specs.Tables.{boxRow, boxesOf, States, stateIn, holdsIn, hitIn}
+use Rattle.climb.specs.Objects.{Objects}
+use Rattle.climb.specs.Climb.{stateOf, lets, isOpen}
+use Rattle.climb.specs.Tables.{boxesOf, States, stateIn}
+use Rattle.point.specs.Objects.{cdhdByte, objectsOf}
+use Rattle.point.specs.Point.{left, top, spans, holds, hit, lowest, objectAt}
+use Rattle.point.specs.Tables.{boxRow, holdsIn, hitIn}
 
 no-true : false ≡ true → ⊥
 no-true q = let z : _≡_ {A = ℕ} 0 1 = cc in omega arith

@@ -1,5 +1,5 @@
--- What the point question asks of a room's objects (document 01, "Actors, points, limbs"; CDHD as in source 003). o is an object's number
--- from 1.
+-- The objects of a room's bytes, as the point question asks for them (document 01, "Actors, points, limbs"; CDHD as in source 003). o is an
+-- object's number from 1.
 use Prim.Native.Nat.{ℕ, _+_, _*_}
 use mathlib.Core.List.{List}
 use lib.ListN.{getD}
@@ -7,16 +7,7 @@ use Rattle.block.specs.declared.Found.{Found}
 use Rattle.block.specs.declared.Found.the-variants.{At, Missing}
 use Rattle.room.specs.Object.{objectBlock}
 use Rattle.image.specs.Image.{objectCount, cdhdOf}
-
--- CDHD's place and size in pixels, its flags, and the object that contains it, 0 where there is none
-pub record Objects : Type 0 where
-  pub count : ℕ
-  pub x : ℕ → ℕ
-  pub y : ℕ → ℕ
-  pub width : ℕ → ℕ
-  pub height : ℕ → ℕ
-  pub flags : ℕ → ℕ
-  pub parent : ℕ → ℕ
+use Rattle.climb.specs.Objects.{Objects}
 
 -- byte n of a header's payload; 0 where there is no header
 abbrev pub byteOf : List ℕ → ℕ → Found → ℕ

@@ -1,18 +1,13 @@
 -- The object under a point (document 01, "Actors, points, limbs"): the lowest-numbered whose box holds it, whose lent flag byte is 0, and
 -- whose container chain is open.
-use Prim.Native.Nat.{ℕ, zero, suc, _+_, _-_, _/_, _%_}
-use mathlib.Core.Bool.{Bool, true, false, cond, not, _&&_}
-use mathlib.Core.List.{List, [], _∷_}
+use Prim.Native.Nat.{ℕ, zero, suc, _+_, _-_}
+use mathlib.Core.Bool.{Bool, cond, _&&_}
+use mathlib.Core.List.{List}
 use lib.Dec.{eqb, leb, ltb}
 use lib.ListN.{getD}
 use Rattle.scene.specs.Steps.{Scene}
-use Rattle.scene.specs.declared.Entry.{Entry}
-use Rattle.point.specs.Objects.{Objects}
-
--- state is the shown state, else 0
-unfoldable pub stateOf : List Entry → ℕ → ℕ
-stateOf [] o = 0
-stateOf (e ∷ es) o = cond (eqb (e .object) o) (e .state) (stateOf es o)
+use Rattle.climb.specs.Objects.{Objects}
+use Rattle.climb.specs.Climb.{stateOf, isOpen}
 
 -- a box stands at its object's newest strip position in the history, else at CDHD's place × 8
 unfoldable pub left : Objects → Scene → ℕ → ℕ
@@ -28,18 +23,6 @@ spans from n p = leb from p && ltb p (from + n)
 -- the box, CDHD sizes × 8, holds the point
 unfoldable pub holds : Objects → Scene → (x y o : ℕ) → Bool
 holds obs sc x y o = spans (left obs sc o) (obs .width o) x && spans (top obs sc o) (obs .height o) y
-
--- a parent must have state not 0 if its child's flags have bit 80, else 0
-unfoldable pub lets : (flags state : ℕ) → Bool
-lets flags state = cond (eqb (flags / 0x80 % 2) 1) (not (eqb state 0)) (eqb state 0)
-
--- The container chain of an object is open, climbed with so many links left: it reaches 0, and each parent on the way is there and has
--- the state that its child asks for. A chain that never reaches 0 runs out of links, which closes it.
-unfoldable pub isOpen : Objects → (ℕ → ℕ) → (links o : ℕ) → Bool
-isOpen obs state zero o = false
-isOpen obs state (suc links) o =
-    cond (eqb (obs .parent o) 0) true
-    (leb (obs .parent o) (obs .count) && lets (obs .flags o) (state (obs .parent o)) && isOpen obs state links (obs .parent o))
 
 -- the object is the one that a point means, but for lower-numbered ones
 unfoldable pub hit : Objects → Scene → List ℕ → (x y o : ℕ) → Bool

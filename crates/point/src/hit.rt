@@ -7,7 +7,7 @@ ghost use Rattle.session.specs.Tables.{Sizes};
 ghost use Rattle.session.specs.Bytes.{stepAt, down};
 ghost use Rattle.point.specs.Point.{lowest};
 ghost use Rattle.point.specs.Tables.{holdsIn, hitIn};
-use crate::climb::is_open;
+use climb::chain::is_open;
 use session::Size;
 use session::history::last_place;
 use session::tables::cell;

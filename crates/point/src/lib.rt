@@ -1,7 +1,7 @@
-// The object under a point (document 01, "Actors, points, limbs"): its box, its lent flag byte and the chain of its containers.
+// The object under a point (document 01, "Actors, points, limbs"): its box, its lent flag byte and the chain of its containers, which crate climb
+// climbs.
 pub mod boxes;
 pub mod call;
-pub mod climb;
 pub mod hit;
 
 // The answer: an object's number, no object, or the number of the refusal.

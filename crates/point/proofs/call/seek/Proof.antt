@@ -13,7 +13,7 @@ use Rattle.point.proofs.call.seek.Tie as tie
 use Rattle.point.proofs.call.seek.Reads as reads
 use Rattle.point.proofs.call.seek.Lts as lts
 use Rattle.point.proofs.boxes.list_boxes.Reads as list-boxes-reads
-use Rattle.point.proofs.climb.fill_states.Reads as fill-states-reads
+use Rattle.climb.proofs.states.fill_states.Reads as fill-states-reads
 use Rattle.point.proofs.hit.lowest_hit.Reads as lowest-hit-reads
 use Rattle.session.proofs.bytes.count.Reads as count-reads
 

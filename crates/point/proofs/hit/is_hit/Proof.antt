@@ -5,7 +5,7 @@ use Rattle.point.proofs.hit.is_hit.Statement.{statement}
 use Rattle.point.proofs.hit.is_hit.Tie as tie
 use Rattle.point.proofs.hit.is_hit.Reads as reads
 use Rattle.point.proofs.hit.is_hit.Lts as lts
-use Rattle.point.proofs.climb.is_open.Reads as is-open-reads
+use Rattle.climb.proofs.chain.is_open.Reads as is-open-reads
 use Rattle.point.proofs.hit.holds.Reads as holds-reads
 
 -- src/hit.rt:57:50

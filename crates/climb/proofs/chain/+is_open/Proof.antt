@@ -3,19 +3,19 @@ use native.Mathlib.Omega.{arith}
 use mathlib.Core.Path.{_≡_, sym, ap, _∙_}
 use Prim.Native.Nat.{_-_}
 use denote.Ref.{now}
-use Rattle.point.specs.Point.{isOpen, lets}
-use Rattle.point.specs.Tables.{boxesOf, stateIn}
-use Rattle.point.proofs.PointLaws.{climb-out, climb-top, climb-gone, climb-on, climb-shut}
+use Rattle.climb.specs.Climb.{isOpen, lets}
+use Rattle.climb.specs.Tables.{boxesOf, stateIn}
+use Rattle.climb.proofs.ClimbLaws.{climb-out, climb-top, climb-gone, climb-on, climb-shut}
 use Prim.Native.Nat.{ℕ, _<_}
 use borrow.Fn.Kinds.{In}
 use borrow.Fn.PlainCycle.{Measures, is, falls, and}
-use Rattle.point.proofs.climb.is_open.Reads as is-open
-use Rattle.point.proofs.climb.is_open.Kinds as is-open-kinds
-use Rattle.point.proofs.climb.+is_open.Lts-is_open as is-open-lts
-use Rattle.point.proofs.climb.lets.Reads as lets-reads
+use Rattle.climb.proofs.chain.is_open.Reads as is-open
+use Rattle.climb.proofs.chain.is_open.Kinds as is-open-kinds
+use Rattle.climb.proofs.chain.+is_open.Lts-is_open as is-open-lts
+use Rattle.climb.proofs.chain.lets.Reads as lets-reads
 use Rattle.session.proofs.tables.wide.Reads as wide-reads
-use Rattle.point.proofs.climb.+is_open.{statement}
-use Rattle.point.proofs.climb.+is_open.Tie.{close}
+use Rattle.climb.proofs.chain.+is_open.{statement}
+use Rattle.climb.proofs.chain.+is_open.Tie.{close}
 
 abbrev μ-is-open : Measures 2 is-open-kinds.ps ℕ
 μ-is-open κs a = a .1 .1 .1 .0
@@ -26,7 +26,7 @@ is-open-at t = and 2 is-open-kinds.ps (is 2 is-open-kinds.ps μ-is-open t) is-op
 abbrev is-open-below : ℕ → In 2 is-open-kinds.ps
 is-open-below t = and 2 is-open-kinds.ps (falls 2 is-open-kinds.ps _<_ μ-is-open t) is-open.Pre
 
--- src/climb.rt:57:9
+-- src/chain.rt:25:9
 is-open-returns : (t : ℕ) → is-open-lts.Need-returns (
   wide-reads.Asked,
   wide-reads.Learnt,
@@ -37,7 +37,7 @@ is-open-returns : (t : ℕ) → is-open-lts.Need-returns (
 ) (is-open-at t) is-open.Post
 is-open-returns t c = climb-out _ _ _ _ (c .if1 .taken)
 
--- src/climb.rt:59:29
+-- src/chain.rt:27:29
 is-open-mul-wide : (t : ℕ) → is-open-lts.Need-mul-wide (
   wide-reads.Asked,
   wide-reads.Learnt,
@@ -48,7 +48,7 @@ is-open-mul-wide : (t : ℕ) → is-open-lts.Need-mul-wide (
 ) (is-open-at t) is-open.Post
 is-open-mul-wide t c = search needs
 
--- src/climb.rt:59:29
+-- src/chain.rt:27:29
 is-open-add-wide : (t : ℕ) → is-open-lts.Need-add-wide (
   wide-reads.Asked,
   wide-reads.Learnt,
@@ -59,7 +59,7 @@ is-open-add-wide : (t : ℕ) → is-open-lts.Need-add-wide (
 ) (is-open-at t) is-open.Post
 is-open-add-wide t c = search needs
 
--- src/climb.rt:59:23
+-- src/chain.rt:27:23
 is-open-mul-wide-2 : (t : ℕ) → is-open-lts.Need-mul-wide-2 (
   wide-reads.Asked,
   wide-reads.Learnt,
@@ -70,7 +70,7 @@ is-open-mul-wide-2 : (t : ℕ) → is-open-lts.Need-mul-wide-2 (
 ) (is-open-at t) is-open.Post
 is-open-mul-wide-2 t c = search needs
 
--- src/climb.rt:59:23
+-- src/chain.rt:27:23
 is-open-shared-slice-read-wide : (t : ℕ) → is-open-lts.Need-shared-slice-read-wide (
   wide-reads.Asked,
   wide-reads.Learnt,
@@ -81,7 +81,7 @@ is-open-shared-slice-read-wide : (t : ℕ) → is-open-lts.Need-shared-slice-rea
 ) (is-open-at t) is-open.Post
 is-open-shared-slice-read-wide t c = search needs
 
--- src/climb.rt:59:9
+-- src/chain.rt:27:9
 is-open-wide-requires : (t : ℕ) → is-open-lts.Need-wide-requires (
   wide-reads.Asked,
   wide-reads.Learnt,
@@ -92,7 +92,7 @@ is-open-wide-requires : (t : ℕ) → is-open-lts.Need-wide-requires (
 ) (is-open-at t) is-open.Post
 is-open-wide-requires t c κs = search needs
 
--- src/climb.rt:61:9
+-- src/chain.rt:29:9
 is-open-returns-2 : (t : ℕ) → is-open-lts.Need-returns-2 (
   wide-reads.Asked,
   wide-reads.Learnt,
@@ -103,7 +103,7 @@ is-open-returns-2 : (t : ℕ) → is-open-lts.Need-returns-2 (
 ) (is-open-at t) is-open.Post
 is-open-returns-2 t c = climb-top _ _ _ _ (c .before .before .before .if1 .left) (sym (c .before .wide .ensures .0) ∙ c .if2 .taken)
 
--- src/climb.rt:64:9
+-- src/chain.rt:32:9
 is-open-returns-3 : (t : ℕ) → is-open-lts.Need-returns-3 (
   wide-reads.Asked,
   wide-reads.Learnt,
@@ -114,7 +114,7 @@ is-open-returns-3 : (t : ℕ) → is-open-lts.Need-returns-3 (
 ) (is-open-at t) is-open.Post
 is-open-returns-3 t c = climb-gone _ _ _ _ (c .before .before .before .before .if1 .left) (λ e. c .before .if2 .left (c .before .before .wide .ensures .0 ∙ e)) (omega (arith, c .before .before .wide .ensures .0))
 
--- src/climb.rt:66:19
+-- src/chain.rt:34:19
 is-open-mul-lets : (t : ℕ) → is-open-lts.Need-mul-lets (
   wide-reads.Asked,
   wide-reads.Learnt,
@@ -125,7 +125,7 @@ is-open-mul-lets : (t : ℕ) → is-open-lts.Need-mul-lets (
 ) (is-open-at t) is-open.Post
 is-open-mul-lets t c = search needs
 
--- src/climb.rt:66:19
+-- src/chain.rt:34:19
 is-open-add-lets : (t : ℕ) → is-open-lts.Need-add-lets (
   wide-reads.Asked,
   wide-reads.Learnt,
@@ -136,7 +136,7 @@ is-open-add-lets : (t : ℕ) → is-open-lts.Need-add-lets (
 ) (is-open-at t) is-open.Post
 is-open-add-lets t c = search needs
 
--- src/climb.rt:66:13
+-- src/chain.rt:34:13
 is-open-mul-lets-2 : (t : ℕ) → is-open-lts.Need-mul-lets-2 (
   wide-reads.Asked,
   wide-reads.Learnt,
@@ -147,7 +147,7 @@ is-open-mul-lets-2 : (t : ℕ) → is-open-lts.Need-mul-lets-2 (
 ) (is-open-at t) is-open.Post
 is-open-mul-lets-2 t c = search needs
 
--- src/climb.rt:66:13
+-- src/chain.rt:34:13
 is-open-shared-slice-read-lets : (t : ℕ) → is-open-lts.Need-shared-slice-read-lets (
   wide-reads.Asked,
   wide-reads.Learnt,
@@ -158,7 +158,7 @@ is-open-shared-slice-read-lets : (t : ℕ) → is-open-lts.Need-shared-slice-rea
 ) (is-open-at t) is-open.Post
 is-open-shared-slice-read-lets t c = search needs
 
--- src/climb.rt:66:31
+-- src/chain.rt:34:31
 is-open-mul-lets-3 : (t : ℕ) → is-open-lts.Need-mul-lets-3 (
   wide-reads.Asked,
   wide-reads.Learnt,
@@ -169,7 +169,7 @@ is-open-mul-lets-3 : (t : ℕ) → is-open-lts.Need-mul-lets-3 (
 ) (is-open-at t) is-open.Post
 is-open-mul-lets-3 t c = search needs
 
--- src/climb.rt:66:31
+-- src/chain.rt:34:31
 is-open-shared-slice-read-lets-2 : (t : ℕ) → is-open-lts.Need-shared-slice-read-lets-2 (
   wide-reads.Asked,
   wide-reads.Learnt,
@@ -180,7 +180,7 @@ is-open-shared-slice-read-lets-2 : (t : ℕ) → is-open-lts.Need-shared-slice-r
 ) (is-open-at t) is-open.Post
 is-open-shared-slice-read-lets-2 t c = search needs
 
--- src/climb.rt:66:8
+-- src/chain.rt:34:8
 is-open-lets-requires : (t : ℕ) → is-open-lts.Need-lets-requires (
   wide-reads.Asked,
   wide-reads.Learnt,
@@ -191,7 +191,7 @@ is-open-lets-requires : (t : ℕ) → is-open-lts.Need-lets-requires (
 ) (is-open-at t) is-open.Post
 is-open-lets-requires t c κs = search needs
 
--- src/climb.rt:67:46
+-- src/chain.rt:35:46
 is-open-sub-is-open : (t : ℕ) → is-open-lts.Need-sub-is-open (
   wide-reads.Asked,
   wide-reads.Learnt,
@@ -202,7 +202,7 @@ is-open-sub-is-open : (t : ℕ) → is-open-lts.Need-sub-is-open (
 ) (is-open-at t) is-open.Post
 is-open-sub-is-open t c = search needs
 
--- src/climb.rt:67:9
+-- src/chain.rt:35:9
 is-open-is-open-requires : (t : ℕ) → is-open-lts.Need-is-open-requires (
   wide-reads.Asked,
   wide-reads.Learnt,
@@ -213,7 +213,7 @@ is-open-is-open-requires : (t : ℕ) → is-open-lts.Need-is-open-requires (
 ) (is-open-at t) is-open.Post
 is-open-is-open-requires t c κs = search needs
 
--- src/climb.rt:67:9
+-- src/chain.rt:35:9
 is-open-returns-4 : (t : ℕ) → is-open-lts.Need-returns-4 (
   wide-reads.Asked,
   wide-reads.Learnt,
@@ -231,7 +231,7 @@ is-open-returns-4 t c =
     ∙ climb-on obs state (a .links) (a .o) (c .before .before .before .before .before .before .before .before .before .if1 .left) (λ e. c .before .before .before .before .before .before .if2 .left (w ∙ e)) (omega (arith, w)) _
     (c .before .before .lets .ensures ∙ ap (λ (k : ℕ). lets (obs .flags (a .o)) (state k)) w) (c .before .if4 .taken)
 
--- src/climb.rt:52:1
+-- src/chain.rt:20:1
 is-open-returns-5 : (t : ℕ) → is-open-lts.Need-returns-5 (
   wide-reads.Asked,
   wide-reads.Learnt,

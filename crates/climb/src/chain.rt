@@ -2,45 +2,13 @@
 ghost use mathlib.Core.Path.{_≡_};
 ghost use Prim.Native.Nat.{_≤_};
 ghost use lib.ListN.{length};
-ghost use Rattle.session.specs.Plans.{entries};
-ghost use Rattle.point.specs.Point.{stateOf, isOpen};
-ghost use Rattle.point.specs.Tables.{States, stateIn, boxesOf};
-use session::Shown;
+ghost use Rattle.climb.specs.Climb.{isOpen};
+ghost use Rattle.climb.specs.Tables.{stateIn, boxesOf};
 use session::tables::wide;
-
-// The state of object o in a shown list, else 0.
-fn state_of(s: Shown, o: u32) -> u32
-    requires { ⌜ s .n ≤ 64 ⌝ }
-    ensures { λ r. ⌜ r ≡ stateOf (entries s) o ⌝ }
-{
-    let n = s.n;
-    let mut i: usize = 0;
-    while i < n {
-        let e = s.list[i];
-        if e.object == o {
-            return e.state;
-        }
-        i += 1;
-    }
-    0
-}
-
-// Puts the states of objects 0 to 128.
-pub fn fill_states(s: Shown, states: &mut [u32])
-    requires { ⌜ (s .n ≤ 64) × (129 ≤ length (now states)) ⌝ }
-    ensures { λ _. ⌜ States (entries s) (now (states .exit)) ⌝ }
-{
-    let mut o: usize = 0;
-    while o < 129 {
-        let state = state_of(s, o as u32);
-        states[o] = state;
-        o += 1;
-    }
-}
 
 // A parent in this state lets its child be found, by the child's flags.
 fn lets(flags: u32, state: u32) -> bool
-    ensures { λ r. ⌜ r ≡ Rattle.point.specs.Point.lets flags state ⌝ }
+    ensures { λ r. ⌜ r ≡ Rattle.climb.specs.Climb.lets flags state ⌝ }
 {
     if flags / 128 % 2 == 1 {
         return state != 0;

@@ -9,8 +9,8 @@ use native.Mathlib.Omega.{arith}
 use borrow.Author.Tests.{eqb-true, eqb-false, eq-eqb, ne-eqb, leb-true, le-leb}
 use lib.Dec.{eqb, leb}
 use Rattle.session.proofs.ReplayLaws.{both}
-use Rattle.point.specs.Objects.{Objects}
-use Rattle.point.specs.Point.{lets, isOpen}
+use Rattle.climb.specs.Objects.{Objects}
+use Rattle.climb.specs.Climb.{lets, isOpen}
 
 -- ---- m numbers below n, no two of them equal, are at most n
 
