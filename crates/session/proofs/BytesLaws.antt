@@ -45,9 +45,6 @@ module _ (l : List ℕ) (at k o s a b : ℕ) where
   pub put5-below : (j : ℕ) → j < at → getD (put5 l at k o s a b) j 0 ≡ getD l j 0
   put5-below j h = before l4 (at + 4) j b (omega arith) ∙ before l3 (at + 3) j a (omega arith) ∙ before l2 (at + 2) j s (omega arith) ∙ before l1 (at + 1) j o (omega arith) ∙ before l at j k (omega arith)
 
-  pub put5-above : (j : ℕ) → at + 5 ≤ j → getD (put5 l at k o s a b) j 0 ≡ getD l j 0
-  put5-above j h = after l4 (at + 4) j b (omega arith) ∙ after l3 (at + 3) j a (omega arith) ∙ after l2 (at + 2) j s (omega arith) ∙ after l1 (at + 1) j o (omega arith) ∙ after l at j k (omega arith)
-
   module _ (fits : at + 5 ≤ length l) where
     pub put5-0 : getD (put5 l at k o s a b) at 0 ≡ k
     put5-0 = before l4 (at + 4) at b (omega arith) ∙ before l3 (at + 3) at a (omega arith) ∙ before l2 (at + 2) at s (omega arith) ∙ before l1 (at + 1) at o (omega arith) ∙ getD-set-same l at k 0 (omega arith)

@@ -1,16 +1,14 @@
 -- What a caller cites: a call on the session's bytes is scene's `called` on the session that they hold, for any room that the tables tell.
 -- Assumes nothing.
-use Prim.Native.Nat.{ℕ, zero, suc, _+_, _*_, _<_, _≤_}
+use Prim.Native.Nat.{ℕ, suc, _+_, _*_, _<_, _≤_}
 use mathlib.Core.Path.{_≡_, refl, sym, ap, subst, _∙_}
-use mathlib.Core.Bool.{Bool, true, false, cond, _||_}
+use mathlib.Core.Bool.{Bool, true, false, cond}
 use mathlib.Core.List.{List, [], _∷_}
 use lib.Dec.{eqb, leb}
 use lib.ListN.{getD, length, length-append}
 use native.Mathlib.Omega.{arith}
 use borrow.Author.Tests.{eqb-true, leb-false}
-use Rattle.session.proofs.ReplayLaws.{both}
 use Rattle.scene.specs.declared.Entry.{Entry}
-use Rattle.scene.specs.declared.Place.{Place}
 use Rattle.scene.specs.declared.Step.{Step}
 use Rattle.scene.specs.declared.Step.the-variants.{Draw, Hide}
 use Rattle.scene.specs.Painting.{Room, Surfaces}
@@ -26,9 +24,6 @@ use Rattle.session.proofs.Lists.{append-nil}
 use Rattle.session.proofs.TablesLaws.{applied-same, session-same, replay-same, settled-same, back-same, planned-same, touches-same, or-left, or-right}
 use Rattle.session.proofs.BytesLaws.{length-down, newest-length, dropped-length, steps-after, steps-dropped, shown-back}
 use Rattle.session.proofs.ReplayLaws.{all-stand, placed-back, replays-older, replays-few, accepted-few, right-shown, right-scene}
-
-no-true : false ≡ true → ⊥
-no-true q = let z : _≡_ {A = ℕ} 0 1 = cc in omega arith
 
 -- ---- how long a shown list is
 
@@ -230,13 +225,6 @@ module _ (room : Room) (objects verdicts : List ℕ) (size : Size) (l : List ℕ
         let c = back-called room l long lent in
         (c .0 ∙ ap numberOf p, c .1 ∙ ap (λ (x : Plan). sessionOf room (backKept l x)) p)
 
-  -- the strips touched, by the tables
-  pub touches-known : (steps : List Step) → Knows room objects verdicts size steps → (h : List Step) (es : List Entry) (st : Step) (k : ℕ)
-      → touches room (sceneAfter room h es) st k ≡ touches T (sceneAfter T h es) st k
-  touches-known steps K h es st k =
-      (λ i. touches room (record { shown = es; last = replay-same room objects verdicts size steps K h i .last }) st k)
-      ∙ touches-same room objects verdicts size steps K (sceneAfter T h es) st k
-
   -- what `touched` asks of an accepted step, and of the newest step of a session that is taken back
   module _ (s r : Shown) where
     pub step-ready : (st : Step) → planOf s ≡ settledOf T l → s .refusal ≡ 0 → planOf r ≡ planned T l st → r .refusal ≡ 0
@@ -305,38 +293,3 @@ module _ (room : Room) (objects verdicts : List ℕ) (size : Size) (l : List ℕ
     back-touches k =
         ap (λ (x : Scene). touches room x (stepAt l n) k) (replay-same room objects verdicts size steps K older ∙ (λ i. sceneAfter T′ older (sym list-back i)))
         ∙ touches-same room objects verdicts size steps K (sceneAfter T′ older (entries r)) (stepAt l n) k
-
--- ---- what is to be gathered
-
--- tables tell the room that is made of them
-pub knows-own : (objects verdicts : List ℕ) (size : Size) (steps : List Step) → Knows (tabled objects verdicts size) objects verdicts size steps
-unfolding tabled
-knows-own objects verdicts size steps =
-    record {
-      strips = refl;
-      height = refl;
-      homeX = λ o. refl;
-      homeY = λ o. refl;
-      width = λ o. refl;
-      tall = λ o. refl;
-      drawable = λ o s n. refl;
-      fault = λ o s n d z. refl;
-    }
-
-pub draws-is : (st : Step) (o s : ℕ) → draws st o s ≡ true → (p : Place) × (st ≡ Draw o s p)
-unfolding draws
-draws-is (Draw q t p) o s e =
-    let a = both (eqb o q) (eqb s t) e in
-    (p, λ i. Draw (sym (eqb-true o q (a .0)) i) (sym (eqb-true s t (a .1)) i) p)
-draws-is (Hide q) o s e = absurd (no-true e)
-
--- a pair that a history names is drawn by one of its steps
-pub names-at : (f : ℕ → Step) (n o s : ℕ) → names (down f n) o s ≡ true → (i : ℕ) × (i < n) × (draws (f i) o s ≡ true)
-unfolding names
-names-at f zero o s e = absurd (no-true e)
-names-at f (suc n) o s e = go (draws (f n) o s) refl (names-at f n o s) e
-  where
-    go : (t : Bool) → draws (f n) o s ≡ t → (names (down f n) o s ≡ true → (i : ℕ) × (i < n) × (draws (f i) o s ≡ true))
-        → (t || names (down f n) o s) ≡ true → (i : ℕ) × (i < suc n) × (draws (f i) o s ≡ true)
-    go true q k e = (n, omega arith, q)
-    go false q k e = let a = k e in (a .0, omega (arith, a .1), a .2)

@@ -19,8 +19,8 @@ use Rattle.session.specs.declared.Shown.{Shown}
 use Rattle.session.specs.declared.Spot.{Spot}
 use Rattle.session.specs.declared.Size.{Size}
 use Rattle.session.specs.Tables.{verdictOf, tabled, Sizes}
-use Rattle.session.specs.Bytes.{down, stepAt, stepsOf, sessionOf, marksFrom, sameMarks, All, Small, SmallEntry, putShown, putNewest, dropNewest}
-use Rattle.session.specs.Plans.{Plan, no, ok, goes, IsAt, judged, settledOf, planned, undone, plannedBack, numberOf, stepKept, backKept, entries, planOf, Replayed, drawnOn, hiddenOn}
+use Rattle.session.specs.Bytes.{down, stepAt, stepsOf, sessionOf, marksFrom, sameMarks, All, Small, SmallEntry}
+use Rattle.session.specs.Plans.{Plan, no, ok, goes, IsAt, judged, settledOf, planned, undone, plannedBack, entries, planOf, Replayed, drawnOn, hiddenOn}
 use Rattle.session.proofs.Lists.{append-nil, or-false, without-same, all-map, some-all}
 use Rattle.session.proofs.TablesLaws.{verdict-bounds, allowed-bounds}
 use Rattle.session.proofs.BytesLaws.{length-down}
@@ -325,24 +325,3 @@ module _ (objects verdicts : List ℕ) (size : Size) (z : Sizes size) where
   pub back-small : (h : List Step) (r : Shown) → Replayed T h r → r .refusal ≡ 0 → All SmallEntry (entries r)
   back-small h r R q =
       subst (All SmallEntry) (sym (R .list q)) (all-small (replay T (bare T) h .shown) (all-there T h (sym (R .right) ∙ eq-eqb (r .refusal) 0 q)))
-
--- ---- the bytes after a plan
-
-module _ (l : List ℕ) (P : Plan) (r : Shown) (e : planOf r ≡ P) where
-  number-no : (r .refusal ≡ 0 → ⊥) → r .refusal ≡ numberOf P
-  number-no h = rw (← e, ne-eqb (r .refusal) 0 h)
-
-  number-ok : r .refusal ≡ 0 → 0 ≡ numberOf P
-  number-ok h = rw (← e, h)
-
-  pub act-no : (st : Step) → (r .refusal ≡ 0 → ⊥) → (r .refusal ≡ numberOf P) × (l ≡ stepKept l st P)
-  act-no st h = (number-no h, rw (← e, ne-eqb (r .refusal) 0 h))
-
-  pub act-yes : (st : Step) (p q : List ℕ) → r .refusal ≡ 0 → p ≡ putNewest l st → q ≡ putShown p (entries r) → (0 ≡ numberOf P) × (q ≡ stepKept l st P)
-  act-yes st p q h ep eq = (number-ok h, rw (← e, h, ← ep) eq)
-
-  pub back-kept : (r .refusal ≡ 0 → ⊥) → (r .refusal ≡ numberOf P) × (l ≡ backKept l P)
-  back-kept h = (number-no h, rw (← e, ne-eqb (r .refusal) 0 h))
-
-  pub back-done : (p q : List ℕ) → r .refusal ≡ 0 → p ≡ dropNewest l → q ≡ putShown p (entries r) → (0 ≡ numberOf P) × (q ≡ backKept l P)
-  back-done p q h ep eq = (number-ok h, rw (← e, h, ← ep) eq)

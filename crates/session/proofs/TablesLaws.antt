@@ -138,21 +138,6 @@ module _ (room : Room) (objects verdicts : List ℕ) (size : Size) where
   abbrev T : Room
   T = tabled objects verdicts size
 
-  -- fewer steps ask for fewer verdicts
-  pub knows-older : (st : Step) (h : List Step) → Knows room objects verdicts size (st ∷ h) → Knows room objects verdicts size h
-  unfolding names
-  knows-older st h K =
-      record {
-        strips = K .strips;
-        height = K .height;
-        homeX = K .homeX;
-        homeY = K .homeY;
-        width = K .width;
-        tall = K .tall;
-        drawable = λ o s n. K .drawable o s (or-right (draws st o s) (names h o s) n);
-        fault = λ o s n. K .fault o s (or-right (draws st o s) (names h o s) n);
-      }
-
   module _ (steps : List Step) (K : Knows room objects verdicts size steps) where
     bare-same : bare room ≡ bare T
     unfolding bare tabled

@@ -1,6 +1,6 @@
 -- What a call comes to before anything is written: a refusal's number, or the shown list after it (document 01, "Sessions" and the order
 -- of refusals). Assumes nothing.
-use Prim.Native.Nat.{ℕ, _+_, _≤_, _<_}
+use Prim.Native.Nat.{ℕ, _≤_, _<_}
 use mathlib.Core.Path.{_≡_}
 use mathlib.Core.Bool.{Bool, true, false, cond, not, _&&_, _||_}
 use mathlib.Core.List.{List, [], _∷_, _++_}

@@ -1,17 +1,14 @@
-// What a draw, a hide or a take-back comes to, and the session's bytes after it.
+// What a draw, a hide or a take-back comes to, before anything is written.
 ghost use mathlib.Core.Path.{_≡_};
 ghost use Prim.Native.Nat.{_≤_, _<_};
 ghost use lib.ListN.{length, getD};
 ghost use Rattle.session.specs.Tables.{tabled, Sizes};
 ghost use Rattle.session.specs.Bytes.{Small, SmallEntry, All};
-ghost use Rattle.session.specs.Plans.{entries, planOf, settledOf, planned, plannedBack, numberOf, stepKept, backKept};
+ghost use Rattle.session.specs.Plans.{entries, planOf, settledOf, planned, plannedBack};
 use crate::Shown;
 use crate::Size;
 use crate::bytes::agrees;
 use crate::bytes::count;
-use crate::bytes::drop_step;
-use crate::bytes::store_shown;
-use crate::bytes::store_step;
 use crate::history::replayed;
 use crate::history::step_on;
 use crate::list::empty;
@@ -59,15 +56,6 @@ pub fn plan_on(
     step_on(session, objects, verdicts, size, n, s, step)
 }
 
-// A draw or a hide: its shown list, or its refusal.
-pub fn plan(session: &[u8], objects: &[u32], verdicts: &[u8], size: Size, step: Step) -> Shown
-    requires { ⌜ (450 ≤ length (now session)) × (1032 ≤ length (now objects)) × (1290 ≤ length (now verdicts)) × Sizes size ⌝ }
-    ensures { λ r. ⌜ (planOf r ≡ planned (tabled (now (objects .entry)) (now (verdicts .entry)) size) (now (session .entry)) step) × (r .n ≤ 64) × (r .refusal ≡ 0 → (getD (now (session .entry)) 0 0 < 64) × Small step × All SmallEntry (entries r)) ⌝ }
-{
-    let s = settled(session, objects, verdicts, size);
-    plan_on(session, objects, verdicts, size, s, step)
-}
-
 // A take-back: the shown list of all steps but the newest, or its refusal.
 pub fn plan_back(session: &[u8], objects: &[u32], verdicts: &[u8], size: Size) -> Shown
     requires { ⌜ (450 ≤ length (now session)) × (1032 ≤ length (now objects)) × (1290 ≤ length (now verdicts)) × Sizes size ⌝ }
@@ -82,34 +70,4 @@ pub fn plan_back(session: &[u8], objects: &[u32], verdicts: &[u8], size: Size) -
         return refused(s, 13);
     }
     replayed(session, objects, verdicts, size, n - 1)
-}
-
-// A draw or a hide, on the session's bytes alone: its number.
-pub fn act(session: &mut [u8], objects: &[u32], verdicts: &[u8], size: Size, step: Step) -> u8
-    requires { ⌜ (450 ≤ length (now session)) × (1032 ≤ length (now objects)) × (1290 ≤ length (now verdicts)) × Sizes size ⌝ }
-    ensures { λ r. ⌜ (r ≡ numberOf (planned (tabled (now (objects .entry)) (now (verdicts .entry)) size) (now (session .entry)) step)) × (now (session .exit) ≡ stepKept (now (session .entry)) step (planned (tabled (now (objects .entry)) (now (verdicts .entry)) size) (now (session .entry)) step)) ⌝ }
-{
-    let t = plan(&session[..], objects, verdicts, size, step);
-    let number = t.refusal;
-    if number != 0 {
-        return number;
-    }
-    store_step(session, step);
-    store_shown(session, t);
-    0
-}
-
-// A take-back, on the session's bytes alone: its number.
-pub fn take_back(session: &mut [u8], objects: &[u32], verdicts: &[u8], size: Size) -> u8
-    requires { ⌜ (450 ≤ length (now session)) × (1032 ≤ length (now objects)) × (1290 ≤ length (now verdicts)) × Sizes size ⌝ }
-    ensures { λ r. ⌜ (r ≡ numberOf (plannedBack (tabled (now (objects .entry)) (now (verdicts .entry)) size) (now (session .entry)))) × (now (session .exit) ≡ backKept (now (session .entry)) (plannedBack (tabled (now (objects .entry)) (now (verdicts .entry)) size) (now (session .entry)))) ⌝ }
-{
-    let t = plan_back(&session[..], objects, verdicts, size);
-    let refusal = t.refusal;
-    if refusal != 0 {
-        return refusal;
-    }
-    drop_step(session);
-    store_shown(session, t);
-    0
 }
