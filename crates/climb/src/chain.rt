@@ -4,7 +4,7 @@ ghost use Prim.Native.Nat.{_≤_};
 ghost use lib.ListN.{length};
 ghost use Rattle.climb.specs.Climb.{isOpen};
 ghost use Rattle.climb.specs.Tables.{stateIn, boxesOf};
-use session::tables::wide;
+use replay::tables::wide;
 
 // A parent in this state lets its child be found, by the child's flags.
 fn lets(flags: u32, state: u32) -> bool

@@ -2,10 +2,10 @@
 ghost use mathlib.Core.Path.{_≡_};
 ghost use Prim.Native.Nat.{_≤_};
 ghost use lib.ListN.{length};
-ghost use Rattle.session.specs.Plans.{entries};
+ghost use Rattle.stored.specs.Bytes.{entries};
 ghost use Rattle.climb.specs.Climb.{stateOf};
 ghost use Rattle.climb.specs.Tables.{States};
-use session::Shown;
+use stored::Shown;
 
 // The state of object o in a shown list, else 0.
 fn state_of(s: Shown, o: u32) -> u32

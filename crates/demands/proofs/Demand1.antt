@@ -20,6 +20,7 @@ use Rattle.load.specs.Load.{sessionAfter, pixelsAfter, masksAfter}
 use Rattle.scene.specs.Painting.{Room, Surfaces}
 use Rattle.scene.specs.Session.{Call, make, takeBack, State, called}
 use Rattle.scene.specs.declared.Step.{Step}
+use Rattle.replay.specs.Replay as replay
 use Rattle.session.specs.Plans as plans
 use Rattle.session.proofs.Caller.{make-called, back-called}
 use Rattle.repaint.specs.Decoded.{decoded}
@@ -50,13 +51,13 @@ block-stays (written b) d f = absurd (f refl)
 
 -- ---- draws, hides and take-backs
 
-step-kept : (l : List ℕ) (st : Step) (p : plans.Plan) → Refusing (plans.numberOf p) → plans.stepKept l st p ≡ l
-step-kept l st (plans.no k) f = refl
-step-kept l st (plans.ok es) f = absurd (f refl)
+step-kept : (l : List ℕ) (st : Step) (p : replay.Plan) → Refusing (plans.numberOf p) → plans.stepKept l st p ≡ l
+step-kept l st (replay.no k) f = refl
+step-kept l st (replay.ok es) f = absurd (f refl)
 
-back-kept : (l : List ℕ) (p : plans.Plan) → Refusing (plans.numberOf p) → plans.backKept l p ≡ l
-back-kept l (plans.no k) f = refl
-back-kept l (plans.ok es) f = absurd (f refl)
+back-kept : (l : List ℕ) (p : replay.Plan) → Refusing (plans.numberOf p) → plans.backKept l p ≡ l
+back-kept l (replay.no k) f = refl
+back-kept l (replay.ok es) f = absurd (f refl)
 
 module _ (s : List ℕ) (b : play.Lent) where
   abbrev held : room.Room → State

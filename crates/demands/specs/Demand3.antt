@@ -16,7 +16,7 @@ use Rattle.room.specs.declared.Room as bytes
 use Rattle.scene.specs.Painting.{Room, Surfaces, painted}
 use Rattle.scene.specs.Steps.{Scene, bare, replay}
 use Rattle.scene.specs.Session.{Call, make, takeBack, listAnswer, stepList, sceneOf}
-use Rattle.session.specs.Bytes.{sessionOf}
+use Rattle.stored.specs.Bytes.{sessionOf}
 use Rattle.repaint.specs.Decoded.{decoded}
 use Rattle.play.specs.Bytes.{Lent, numberOf, bytesAfter}
 

@@ -18,9 +18,10 @@ use Rattle.scene.specs.Painting.{Room, Surfaces, pixelLayout, maskLayout, paint
 use Rattle.scene.specs.Session.{Call, make, takeBack, State, Outcome, called, loaded, stateAfter, Demand3}
 use Rattle.scene.proofs.Reading.{length-rebuilt}
 use Rattle.scene.proofs.Demand3 as scene
-use Rattle.session.specs.Bytes.{sessionOf, putMarks, putNewest, dropNewest}
-use Rattle.session.specs.Plans.{Plan, no, ok, planned, plannedBack, stepKept, backKept}
-use Rattle.session.proofs.BytesLaws.{length-marks}
+use Rattle.stored.specs.Bytes.{sessionOf, putMarks, putNewest, dropNewest}
+use Rattle.replay.specs.Replay.{Plan, no, ok}
+use Rattle.session.specs.Plans.{planned, plannedBack, stepKept, backKept}
+use Rattle.stored.proofs.BytesLaws.{length-marks}
 use Rattle.session.proofs.Caller.{make-called, back-called}
 use Rattle.repaint.specs.Decoded.{decoded}
 use Rattle.play.specs.Calls.{stateOf, outcome, kept}

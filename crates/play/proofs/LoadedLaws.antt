@@ -20,7 +20,7 @@ use Rattle.room.specs.declared.Room as room
 use Rattle.load.specs.Load.{background, mask, loadedPixels, loadedMasks, emptied}
 use Rattle.scene.specs.Painting.{Room, Surfaces, pixelLayout, maskLayout, rebuiltBytes, newByte, freshByte, layered, painted, rebuilt}
 use Rattle.scene.specs.Session.{State, loaded}
-use Rattle.session.specs.Bytes.{sessionOf, marksFrom, allPlaced}
+use Rattle.stored.specs.Bytes.{sessionOf, marksFrom, allPlaced}
 use Rattle.repaint.specs.Decoded.{decoded}
 use Rattle.repaint.proofs.LayerLaws.{rebuilt-upd}
 use Rattle.play.specs.Calls.{stateOf}

@@ -16,13 +16,14 @@ use Rattle.scene.specs.Session.{make, made, sceneOf}
 use Rattle.scene.specs.declared.Entry.{Entry}
 use Rattle.scene.specs.declared.Step.{Step}
 use Rattle.scene.proofs.Loops.{pixel-strips, mask-strips}
-use Rattle.session.specs.Bytes.{All, stepsOf, sessionOf, readable, putShown, putNewest}
-use Rattle.session.specs.Plans.{no, ok, planOf, entries, numberOf, planned, settledOf, stepKept, sceneAfter, flagged}
-use Rattle.session.specs.Tables.{Knows, tabled}
-use Rattle.session.specs.declared.Shown.{Shown}
+use Rattle.stored.specs.Bytes.{All, stepsOf, sessionOf, readable, putShown, putNewest, entries}
+use Rattle.replay.specs.Replay.{no, ok, planOf, sceneAfter}
+use Rattle.session.specs.Plans.{numberOf, planned, settledOf, stepKept, flagged}
+use Rattle.replay.specs.Tables.{Knows, tabled}
+use Rattle.stored.specs.declared.Shown.{Shown}
 use Rattle.session.proofs.Caller.{planned-known, act-called, step-list, step-touches}
 use Rattle.session.proofs.PlanLaws.{accepted-plan}
-use Rattle.session.proofs.ReplayLaws.{right-shown}
+use Rattle.replay.proofs.ReplayLaws.{right-shown}
 use Rattle.repaint.specs.Decoded.{decoded, entryAt, entriesOf}
 use Rattle.repaint.specs.Ready.{Paintable, Listed}
 use Rattle.play.specs.Size.{sizeOf}

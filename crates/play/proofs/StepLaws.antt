@@ -15,11 +15,13 @@ use Rattle.scene.specs.declared.Step.{Step}
 use Rattle.scene.specs.declared.Step.the-variants.{Draw, Hide}
 use Rattle.scene.proofs.Loops.{rebuilt-alike}
 use Rattle.scene.proofs.Reading.{each-at}
-use Rattle.session.specs.Bytes.{All}
-use Rattle.session.specs.Plans.{no, ok, planOf, entries, numberOf, flag, flagged}
-use Rattle.session.specs.declared.Shown.{Shown}
-use Rattle.session.proofs.Lists.{all-append, all-without, append-nil}
-use Rattle.session.proofs.ReplayLaws.{accepted-draw, replays-older}
+use Rattle.stored.specs.Bytes.{All, entries}
+use Rattle.replay.specs.Replay.{no, ok, planOf}
+use Rattle.session.specs.Plans.{numberOf, flag, flagged}
+use Rattle.stored.specs.declared.Shown.{Shown}
+use Rattle.stored.proofs.Lists.{all-append, all-without}
+use Rattle.replay.proofs.Lists.{append-nil}
+use Rattle.replay.proofs.ReplayLaws.{accepted-draw, replays-older}
 
 -- ---- what `called` leaves
 

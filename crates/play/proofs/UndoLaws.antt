@@ -15,13 +15,14 @@ use Rattle.scene.specs.Session.{Call, takeBack, State, Outcome, called, tried, 
 use Rattle.scene.specs.declared.Entry.{Entry}
 use Rattle.scene.specs.declared.Step.{Step}
 use Rattle.scene.proofs.Loops.{pixel-strips, mask-strips}
-use Rattle.session.specs.Bytes.{All, down, stepAt, stepsOf, sessionOf, readable, putShown, dropNewest}
-use Rattle.session.specs.Plans.{no, ok, planOf, entries, numberOf, plannedBack, backKept, sceneAfter, flagged, undone}
-use Rattle.session.specs.Tables.{Knows, tabled}
-use Rattle.session.specs.declared.Shown.{Shown}
+use Rattle.stored.specs.Bytes.{All, down, stepAt, stepsOf, sessionOf, readable, putShown, dropNewest, entries}
+use Rattle.replay.specs.Replay.{no, ok, planOf, sceneAfter}
+use Rattle.session.specs.Plans.{numberOf, plannedBack, backKept, flagged, undone}
+use Rattle.replay.specs.Tables.{Knows, tabled}
+use Rattle.stored.specs.declared.Shown.{Shown}
 use Rattle.session.proofs.Caller.{back-known, take-back-called, back-list, back-touches}
 use Rattle.session.proofs.PlanLaws.{plan-and}
-use Rattle.session.proofs.ReplayLaws.{right-shown, replays-older}
+use Rattle.replay.proofs.ReplayLaws.{right-shown, replays-older}
 use Rattle.repaint.specs.Decoded.{decoded, entriesOf}
 use Rattle.play.specs.Size.{sizeOf}
 use Rattle.play.specs.Calls.{outcome, kept}

@@ -38,9 +38,9 @@ use Rattle.image.proofs.FaultLaws.{fault-at}
 use Rattle.scene.specs.declared.Place.{Place}
 use Rattle.scene.specs.declared.Step.{Step}
 use Rattle.scene.specs.declared.Step.the-variants as step
-use Rattle.session.specs.Bytes.{down, stepAt, readable}
-use Rattle.session.specs.Tables.{cellOf, verdictOf, draws, names, sized, Knows}
-use Rattle.session.proofs.TablesLaws.{cell-none, cell-row, cell-past, verdict-none, verdict-past, verdict-zero, verdict-over, verdict-cell}
+use Rattle.stored.specs.Bytes.{down, stepAt, readable}
+use Rattle.replay.specs.Tables.{cellOf, verdictOf, draws, names, sized, Knows}
+use Rattle.replay.proofs.TablesLaws.{cell-none, cell-row, cell-past, verdict-none, verdict-past, verdict-zero, verdict-over, verdict-cell}
 use Rattle.repaint.specs.Decoded.{decoded}
 use Rattle.repaint.specs.Ready.{Ready}
 use Rattle.play.specs.Size.{sizeOf}

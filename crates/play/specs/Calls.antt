@@ -8,7 +8,7 @@ use Rattle.room.specs.declared.Tested.the-variants.{Right, Refused}
 use Rattle.scene.specs.Painting as scene
 use Rattle.scene.specs.Session.{Call, make, takeBack, State, Outcome, called}
 use Rattle.scene.specs.declared.Step.{Step}
-use Rattle.session.specs.Bytes.{sessionOf}
+use Rattle.stored.specs.Bytes.{sessionOf}
 use Rattle.session.specs.Plans.{planned, plannedBack, stepKept, backKept}
 use Rattle.repaint.specs.Decoded.{decoded}
 

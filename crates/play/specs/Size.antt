@@ -1,7 +1,7 @@
 -- The sizes of a room as its session asks for them.
 use Rattle.room.specs.Test.{strips}
 use Rattle.room.specs.declared.Room.{Room}
-use Rattle.session.specs.declared.Size.{Size}
+use Rattle.replay.specs.declared.Size.{Size}
 
 abbrev pub sizeOf : Room → Size
 sizeOf r = record { strips = strips r; height = r .height; count = r .objects }

@@ -11,7 +11,7 @@ use Rattle.room.specs.declared.Room.{Room}
 use Rattle.image.specs.Image.{drawable}
 use Rattle.image.specs.Fault.{imageFault}
 use Rattle.scene.specs.declared.Step.{Step}
-use Rattle.session.specs.Tables.{names, sized}
+use Rattle.replay.specs.Tables.{names, sized}
 use Rattle.repaint.specs.Decoded.{decoded}
 
 -- v is the verdict of object o in state st: 11 where it can't be drawn, else the number of its image's fault, which is asked only of an

@@ -3,8 +3,8 @@ ghost use mathlib.Core.Path.{_≡_};
 ghost use Prim.Native.Nat.{_*_, _≤_};
 ghost use lib.ListN.{length};
 ghost use Rattle.repaint.specs.Decoded.{entriesOf};
-ghost use Rattle.session.specs.Plans.{entries};
-use session::Shown;
+ghost use Rattle.stored.specs.Bytes.{entries};
+use stored::Shown;
 
 pub fn flatten(s: Shown, out: &mut [u32])
     requires { ⌜ (s .n ≤ 64) × (256 ≤ length (now out)) ⌝ }

@@ -11,15 +11,15 @@ ghost use Rattle.play.specs.Calls.{outcome, kept};
 use crate::flat::flatten;
 use crate::verdict::judge;
 use repaint::rebuild;
+use replay::Size;
 use room::Room;
 use scene::Step;
-use session::Size;
-use session::bytes::count;
-use session::bytes::store_shown;
-use session::bytes::store_step;
 use session::plan::plan_on;
 use session::plan::settled;
 use session::touch::touched;
+use stored::bytes::count;
+use stored::bytes::store_shown;
+use stored::bytes::store_step;
 
 pub fn size_of(r: Room) -> Size
     ensures { λ z. ⌜ z ≡ sizeOf r ⌝ }

@@ -12,12 +12,12 @@ use crate::step::size_of;
 use crate::verdict::judge_history;
 use repaint::rebuild;
 use room::Room;
-use session::bytes::count;
-use session::bytes::drop_step;
-use session::bytes::step_at;
-use session::bytes::store_shown;
 use session::plan::plan_back;
 use session::touch::touched;
+use stored::bytes::count;
+use stored::bytes::drop_step;
+use stored::bytes::step_at;
+use stored::bytes::store_shown;
 
 // A take-back: its number.
 pub fn undo_step(

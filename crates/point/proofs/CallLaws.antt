@@ -14,13 +14,14 @@ use Rattle.scene.specs.Painting.{Room}
 use Rattle.scene.specs.Steps.{Scene}
 use Rattle.scene.specs.Session.{rightFor, sceneOf}
 use Rattle.scene.specs.declared.Entry.{Entry}
-use Rattle.session.specs.Bytes.{sessionOf, stepsOf, readable}
-use Rattle.session.specs.Plans.{Plan, no, ok, planOf, entries, settledOf, sceneAfter}
-use Rattle.session.specs.Tables.{Knows, tabled}
-use Rattle.session.specs.declared.Shown.{Shown}
-use Rattle.session.specs.declared.Size.{Size}
+use Rattle.stored.specs.Bytes.{sessionOf, stepsOf, readable, entries}
+use Rattle.replay.specs.Replay.{Plan, no, ok, planOf, sceneAfter}
+use Rattle.session.specs.Plans.{settledOf}
+use Rattle.replay.specs.Tables.{Knows, tabled}
+use Rattle.stored.specs.declared.Shown.{Shown}
+use Rattle.replay.specs.declared.Size.{Size}
 use Rattle.session.proofs.Caller.{settled-known}
-use Rattle.session.proofs.PlanLaws.{plan-means}
+use Rattle.replay.proofs.JudgedLaws.{plan-means}
 use Rattle.repaint.specs.Decoded.{decoded}
 use Rattle.play.specs.Size.{sizeOf}
 use Rattle.point.specs.Objects.{objectsOf}

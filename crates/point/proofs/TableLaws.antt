@@ -19,11 +19,11 @@ use Rattle.scene.specs.declared.Place.{Place}
 use Rattle.scene.specs.declared.Place.the-variants.{Last, Strip}
 use Rattle.scene.specs.declared.Step.{Step}
 use Rattle.scene.specs.declared.Step.the-variants.{Draw, Hide}
-use Rattle.session.specs.declared.Size.{Size}
-use Rattle.session.specs.declared.Spot as session
-use Rattle.session.specs.Plans.{IsAt, sceneAfter}
-use Rattle.session.specs.Tables.{cellOf, tabled}
-use Rattle.session.proofs.TablesLaws.{cell-row}
+use Rattle.replay.specs.declared.Size.{Size}
+use Rattle.replay.specs.declared.Spot as session
+use Rattle.replay.specs.Replay.{IsAt, sceneAfter}
+use Rattle.replay.specs.Tables.{cellOf, tabled}
+use Rattle.replay.proofs.TablesLaws.{cell-row}
 use Rattle.climb.specs.Objects.{Objects}
 use Rattle.climb.specs.Climb.{stateOf, lets, isOpen}
 use Rattle.climb.specs.Tables.{boxesOf, States, stateIn}

@@ -7,9 +7,9 @@ use lib.ListN.{getD}
 use Rattle.block.specs.declared.Found.{Found}
 use Rattle.image.specs.Image.{cdhdOf}
 use Rattle.scene.specs.declared.Step.{Step}
-use Rattle.session.specs.declared.Size.{Size}
-use Rattle.session.specs.Tables.{tabled}
-use Rattle.session.specs.Plans.{sceneAfter}
+use Rattle.replay.specs.declared.Size.{Size}
+use Rattle.replay.specs.Tables.{tabled}
+use Rattle.replay.specs.Replay.{sceneAfter}
 use Rattle.climb.specs.Climb.{isOpen}
 use Rattle.climb.specs.Tables.{boxesOf, stateIn}
 use Rattle.point.specs.Objects.{byteOf}

@@ -5,9 +5,9 @@ ghost use lib.ListN.{length, getD};
 ghost use Rattle.image.specs.Image.{objectCount};
 ghost use Rattle.repaint.specs.Ready.{Ready};
 ghost use Rattle.scene.specs.Painting as scene;
-ghost use Rattle.session.specs.Bytes.{stepsOf};
-ghost use Rattle.session.specs.Plans.{entries, sceneAfter};
-ghost use Rattle.session.specs.Tables.{Sizes};
+ghost use Rattle.stored.specs.Bytes.{stepsOf, entries};
+ghost use Rattle.replay.specs.Replay.{sceneAfter};
+ghost use Rattle.replay.specs.Tables.{Sizes};
 ghost use Rattle.point.specs.Objects.{objectsOf};
 ghost use Rattle.point.specs.Point.{objectAt};
 ghost use Rattle.point.specs.Call.{found, asked, pointedAt};
@@ -18,15 +18,15 @@ use climb::states::fill_states;
 use image::gather::gather;
 use play::step::size_of;
 use play::verdict::judge_history;
+use replay::Size;
+use replay::tables::wide;
 use room::Room;
 use room::Tested;
 use room::test::flags_lent;
 use room::test::test_room;
-use session::Shown;
-use session::Size;
-use session::bytes::count;
 use session::plan::settled;
-use session::tables::wide;
+use stored::Shown;
+use stored::bytes::count;
 
 // The object under a point of the room, 0 for none, with the shown list of a session that is right.
 fn seek(

@@ -3,14 +3,14 @@ ghost use mathlib.Core.Path.{_≡_};
 ghost use mathlib.Core.List.{[]};
 ghost use Prim.Native.Nat.{_≤_, _<_};
 ghost use lib.ListN.{length};
-ghost use Rattle.session.specs.Tables.{Sizes};
-ghost use Rattle.session.specs.Bytes.{stepAt, down};
+ghost use Rattle.replay.specs.Tables.{Sizes};
+ghost use Rattle.stored.specs.Bytes.{stepAt, down};
 ghost use Rattle.point.specs.Point.{lowest};
 ghost use Rattle.point.specs.Tables.{holdsIn, hitIn};
 use climb::chain::is_open;
-use session::Size;
-use session::history::last_place;
-use session::tables::cell;
+use replay::Size;
+use replay::history::last_place;
+use replay::tables::cell;
 
 // Whether n pixels from `from` on hold the pixel p.
 fn spans(from: usize, n: usize, p: usize) -> bool

@@ -8,7 +8,7 @@ use lib.ListN.{getD}
 use Rattle.scene.specs.Painting.{Room, Surfaces, painted}
 use Rattle.scene.specs.Steps.{bare, replay}
 use Rattle.scene.specs.Session.{takeBack, sceneOf, befores, listAnswer, stepList}
-use Rattle.session.specs.Bytes.{sessionOf}
+use Rattle.stored.specs.Bytes.{sessionOf}
 use Rattle.play.specs.Bytes.{Lent}
 use Rattle.play.specs.Calls.{stateOf}
 use Rattle.runner.specs.Coded.{callAt, callsOf}

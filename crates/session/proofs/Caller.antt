@@ -14,16 +14,19 @@ use Rattle.scene.specs.declared.Step.the-variants.{Draw, Hide}
 use Rattle.scene.specs.Painting.{Room, Surfaces}
 use Rattle.scene.specs.Steps.{Scene, without, entryOf, removes, adds, applied, touches, refusal, bare, replay, replays}
 use Rattle.scene.specs.Session.{Session, State, make, takeBack, rightFor, sceneOf, refused, made, unmade, tried, called}
-use Rattle.session.specs.declared.Size.{Size}
-use Rattle.session.specs.Tables.{names, draws, tabled, Knows}
-use Rattle.session.specs.Bytes.{down, stepAt, stepsOf, readable, sessionOf, putShown, allPlaced, marksFrom, afterStep, afterBack, putNewest, dropNewest}
-use Rattle.session.specs.Plans.{Plan, no, ok, judged, settledOf, planned, undone, plannedBack, numberOf, stepKept, backKept, entries, planOf, sceneAfter}
-use Rattle.session.specs.declared.Shown.{Shown}
-use Rattle.session.proofs.PlanLaws.{accepted-plan, list-is, plan-and, plan-means}
-use Rattle.session.proofs.Lists.{append-nil}
-use Rattle.session.proofs.TablesLaws.{applied-same, session-same, replay-same, settled-same, back-same, planned-same, touches-same, or-left, or-right}
-use Rattle.session.proofs.BytesLaws.{length-down, newest-length, dropped-length, steps-after, steps-dropped, shown-back}
-use Rattle.session.proofs.ReplayLaws.{all-stand, placed-back, replays-older, replays-few, accepted-few, right-shown, right-scene}
+use Rattle.replay.specs.declared.Size.{Size}
+use Rattle.replay.specs.Tables.{names, draws, tabled, Knows}
+use Rattle.stored.specs.Bytes.{down, stepAt, stepsOf, readable, sessionOf, putShown, allPlaced, marksFrom, afterStep, afterBack, putNewest, dropNewest, entries}
+use Rattle.replay.specs.Replay.{Plan, no, ok, judged, planOf, sceneAfter}
+use Rattle.session.specs.Plans.{settledOf, planned, undone, plannedBack, numberOf, stepKept, backKept}
+use Rattle.stored.specs.declared.Shown.{Shown}
+use Rattle.replay.proofs.JudgedLaws.{plan-means}
+use Rattle.session.proofs.PlanLaws.{accepted-plan, list-is, plan-and}
+use Rattle.replay.proofs.Lists.{append-nil}
+use Rattle.replay.proofs.TablesLaws.{applied-same, replay-same, touches-same, or-left, or-right}
+use Rattle.session.proofs.BridgeLaws.{session-same, settled-same, back-same, planned-same}
+use Rattle.stored.proofs.BytesLaws.{length-down, newest-length, dropped-length, steps-after, steps-dropped, shown-back}
+use Rattle.replay.proofs.ReplayLaws.{all-stand, placed-back, replays-older, replays-few, accepted-few, right-shown, right-scene}
 
 -- ---- how long a shown list is
 

@@ -17,13 +17,14 @@ use Rattle.scene.specs.declared.Step.the-variants.{Draw, Hide}
 use Rattle.scene.specs.Painting.{Room, covers}
 use Rattle.scene.specs.Steps.{Scene, some, only, spotOf, entryOf, clash, removes, adds, touches, allowed, refusal}
 use Rattle.scene.proofs.Reading.{length-each, each-at}
-use Rattle.session.specs.declared.Size.{Size}
-use Rattle.session.specs.declared.Spot.{Spot}
-use Rattle.session.specs.Tables.{tabled, Sizes}
-use Rattle.session.specs.Plans.{IsAt, goes, flag, flagged}
-use Rattle.session.proofs.Lists.{or-false, append-nil}
-use Rattle.session.proofs.TablesLaws.{allowed-bounds}
-use Rattle.session.proofs.ReplayLaws.{accepted-draw}
+use Rattle.replay.specs.declared.Size.{Size}
+use Rattle.replay.specs.declared.Spot.{Spot}
+use Rattle.replay.specs.Tables.{tabled, Sizes}
+use Rattle.replay.specs.Replay.{IsAt, goes}
+use Rattle.session.specs.Plans.{flag, flagged}
+use Rattle.replay.proofs.Lists.{or-false, append-nil}
+use Rattle.replay.proofs.TablesLaws.{allowed-bounds}
+use Rattle.replay.proofs.ReplayLaws.{accepted-draw}
 
 either : {A B C : Type 0} → A ⊎ B → (A → C) → (B → C) → C
 either s f g = ⊎-elim f g s

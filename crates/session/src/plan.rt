@@ -2,18 +2,19 @@
 ghost use mathlib.Core.Path.{_≡_};
 ghost use Prim.Native.Nat.{_≤_, _<_};
 ghost use lib.ListN.{length, getD};
-ghost use Rattle.session.specs.Tables.{tabled, Sizes};
-ghost use Rattle.session.specs.Bytes.{Small, SmallEntry, All};
-ghost use Rattle.session.specs.Plans.{entries, planOf, settledOf, planned, plannedBack};
-use crate::Shown;
-use crate::Size;
-use crate::bytes::agrees;
-use crate::bytes::count;
-use crate::history::replayed;
-use crate::history::step_on;
-use crate::list::empty;
-use crate::list::refused;
+ghost use Rattle.replay.specs.Tables.{tabled, Sizes};
+ghost use Rattle.stored.specs.Bytes.{Small, SmallEntry, All, entries};
+ghost use Rattle.replay.specs.Replay.{planOf};
+ghost use Rattle.session.specs.Plans.{settledOf, planned, plannedBack};
+use replay::Size;
+use replay::history::replayed;
+use replay::history::step_on;
+use replay::list::empty;
+use replay::list::refused;
 use scene::Step;
+use stored::Shown;
+use stored::bytes::agrees;
+use stored::bytes::count;
 
 // The list of a session that is right for the room; else refusal 9.
 pub fn settled(session: &[u8], objects: &[u32], verdicts: &[u8], size: Size) -> Shown

@@ -5,19 +5,20 @@ ghost use mathlib.Core.List.{List, _++_};
 ghost use lib.ListN.{length};
 ghost use Rattle.scene.specs.Painting.{covers};
 ghost use Rattle.scene.specs.Steps.{adds, only, refusal, removes, some, touches};
-ghost use Rattle.session.specs.Tables.{tabled, Sizes};
-ghost use Rattle.session.specs.Bytes.{stepAt, down};
-ghost use Rattle.session.specs.Plans.{entries, flag, flagged, sceneAfter};
-use crate::Shown;
-use crate::Size;
-use crate::history::last_place;
-use crate::history::placed;
-use crate::list::push_if;
-use crate::list::sift;
-use crate::tables::cell;
-use crate::tables::wide;
+ghost use Rattle.replay.specs.Tables.{tabled, Sizes};
+ghost use Rattle.stored.specs.Bytes.{stepAt, down, entries};
+ghost use Rattle.replay.specs.Replay.{sceneAfter};
+ghost use Rattle.session.specs.Plans.{flag, flagged};
+use replay::Size;
+use replay::history::last_place;
+use replay::history::placed;
+use replay::list::push_if;
+use replay::list::sift;
+use replay::tables::cell;
+use replay::tables::wide;
 use scene::Entry;
 use scene::Step;
+use stored::Shown;
 
 // The entries that a step removes from the list s or adds to it, after the first `upto` steps. The step is one that is accepted, so that
 // its place is in the room.

@@ -13,7 +13,7 @@ use Rattle.climb.proofs.chain.is_open.Reads as is-open
 use Rattle.climb.proofs.chain.is_open.Kinds as is-open-kinds
 use Rattle.climb.proofs.chain.+is_open.Lts-is_open as is-open-lts
 use Rattle.climb.proofs.chain.lets.Reads as lets-reads
-use Rattle.session.proofs.tables.wide.Reads as wide-reads
+use Rattle.replay.proofs.tables.wide.Reads as wide-reads
 use Rattle.climb.proofs.chain.+is_open.{statement}
 use Rattle.climb.proofs.chain.+is_open.Tie.{close}
 

@@ -6,7 +6,7 @@ use lib.ListN.{length, getD, length-set}
 use lib.Seq.{getD-set-same, getD-set-other}
 use native.Mathlib.Omega.{arith}
 use borrow.Author.Needs.{needs}
-use Rattle.session.specs.Plans.{entries}
+use Rattle.stored.specs.Bytes.{entries}
 use Rattle.climb.specs.Climb.{stateOf}
 use Rattle.climb.proofs.ClimbLaws.{states-more}
 use Rattle.climb.proofs.states.fill_states.Statement.{statement}

@@ -3,7 +3,7 @@ use mathlib.Core.Path.{_≡_, refl}
 use lib.ListN.{length, take, drop}
 use native.Mathlib.Omega.{arith}
 use borrow.Author.Needs.{needs}
-use Rattle.session.proofs.Lists.{length-of-map}
+use Rattle.stored.proofs.Lists.{length-of-map}
 use Rattle.climb.specs.Climb.{stateOf}
 use Rattle.climb.proofs.ClimbLaws.{state-hit, state-miss, state-none}
 use Rattle.climb.proofs.states.state_of.Statement.{statement}

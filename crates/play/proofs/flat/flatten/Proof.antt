@@ -1,6 +1,6 @@
 use Rattle.play.proofs.FlatLaws.{flat-more}
 use Rattle.repaint.specs.Decoded.{entriesOf}
-use Rattle.session.proofs.Lists.{length-of-map}
+use Rattle.stored.proofs.Lists.{length-of-map}
 use lib.ListN.{length, take, length-set}
 use borrow.Author.Needs.{needs}
 use native.Mathlib.Omega.{arith}

@@ -1,9 +1,8 @@
-use Rattle.session.specs.Plans.{entries}
-use Rattle.session.specs.Bytes.{putShown}
+use Rattle.stored.specs.Bytes.{entries, putShown}
 use Rattle.play.proofs.MakeLaws.{before-zero, listed, make-number, refused-session, refused-pixels, refused-masks, made-session, made-fine, made-pixels, made-masks}
 use Rattle.repaint.specs.Decoded.{decoded}
 use Rattle.session.proofs.Caller.{step-ready}
-use Rattle.session.specs.Tables.{tabled}
+use Rattle.replay.specs.Tables.{tabled}
 use Rattle.room.specs.Test.{strips}
 use lib.ListN.{length, getD}
 use denote.Ref.{now}

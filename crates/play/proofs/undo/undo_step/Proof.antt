@@ -2,8 +2,7 @@ use Rattle.play.proofs.UndoLaws.{back-number, kept-session, kept-pixels
 use Rattle.play.proofs.MakeLaws.{listed}
 use Rattle.repaint.specs.Decoded.{decoded}
 use Rattle.session.proofs.Caller.{back-ready}
-use Rattle.session.specs.Plans.{entries}
-use Rattle.session.specs.Bytes.{putShown}
+use Rattle.stored.specs.Bytes.{entries, putShown}
 use Rattle.room.specs.Test.{strips}
 use lib.ListN.{length, getD}
 use denote.Ref.{now}
@@ -20,10 +19,10 @@ use Rattle.play.proofs.flat.flatten.Reads as flatten-reads
 use Rattle.play.proofs.step.size_of.Reads as size-of-reads
 use Rattle.play.proofs.verdict.judge_history.Reads as judge-history-reads
 use Rattle.repaint.proofs.rebuild.Reads as rebuild-reads
-use Rattle.session.proofs.bytes.count.Reads as count-reads
-use Rattle.session.proofs.bytes.drop_step.Reads as drop-step-reads
-use Rattle.session.proofs.bytes.step_at.Reads as step-at-reads
-use Rattle.session.proofs.bytes.store_shown.Reads as store-shown-reads
+use Rattle.stored.proofs.bytes.count.Reads as count-reads
+use Rattle.stored.proofs.bytes.drop_step.Reads as drop-step-reads
+use Rattle.stored.proofs.bytes.step_at.Reads as step-at-reads
+use Rattle.stored.proofs.bytes.store_shown.Reads as store-shown-reads
 use Rattle.session.proofs.plan.plan_back.Reads as plan-back-reads
 use Rattle.session.proofs.touch.touched.Reads as touched-reads
 

@@ -5,7 +5,7 @@ use lib.ListN.{length}
 use native.Mathlib.Numerals.{add-one}
 use Prim.Native.Nat.{_≤_, _-_}
 use mathlib.Core.Path.{_≡_}
-use Rattle.session.specs.Bytes.{down, stepAt}
+use Rattle.stored.specs.Bytes.{down, stepAt}
 use Rattle.play.specs.Verdict.{Judged}
 use Rattle.play.proofs.VerdictLaws.{judged-none, judged-past, judged-all}
 use Rattle.play.proofs.verdict.judge_steps.Statement.{statement}

@@ -13,7 +13,7 @@ use Rattle.play.proofs.verdict.judge_history.Reads as judge-history-reads
 use Rattle.point.proofs.call.answer.Reads as answer-reads
 use Rattle.point.proofs.call.seek.Reads as seek-reads
 use Rattle.session.proofs.plan.settled.Reads as settled-reads
-use Rattle.session.proofs.tables.wide.Reads as wide-reads
+use Rattle.replay.proofs.tables.wide.Reads as wide-reads
 
 -- src/call.rt:77:44
 slice-aggregate-judge-history : tie.Need-slice-aggregate-judge-history

@@ -1,8 +1,7 @@
 use Rattle.point.proofs.TableLaws.{object-told}
 use Rattle.point.specs.Tables.{hitIn}
 use Rattle.point.specs.Point.{lowest}
-use Rattle.session.specs.Plans.{entries}
-use Rattle.session.specs.Bytes.{stepsOf, stepAt, down}
+use Rattle.stored.specs.Bytes.{entries, stepsOf, stepAt, down}
 use native.Mathlib.Omega.{arith}
 use denote.Ref.{now}
 use Prim.Native.Nat.{ℕ}
@@ -15,7 +14,7 @@ use Rattle.point.proofs.call.seek.Lts as lts
 use Rattle.point.proofs.boxes.list_boxes.Reads as list-boxes-reads
 use Rattle.climb.proofs.states.fill_states.Reads as fill-states-reads
 use Rattle.point.proofs.hit.lowest_hit.Reads as lowest-hit-reads
-use Rattle.session.proofs.bytes.count.Reads as count-reads
+use Rattle.stored.proofs.bytes.count.Reads as count-reads
 
 -- src/call.rt:46:22
 slice-aggregate-list-boxes : tie.Need-slice-aggregate-list-boxes

@@ -8,8 +8,8 @@ use Rattle.point.proofs.hit.holds.Tie as tie
 use Rattle.point.proofs.hit.holds.Reads as reads
 use Rattle.point.proofs.hit.holds.Lts as lts
 use Rattle.point.proofs.hit.spans.Reads as spans-reads
-use Rattle.session.proofs.history.last_place.Reads as last-place-reads
-use Rattle.session.proofs.tables.cell.Reads as cell-reads
+use Rattle.replay.proofs.history.last_place.Reads as last-place-reads
+use Rattle.replay.proofs.tables.cell.Reads as cell-reads
 
 -- src/hit.rt:36:9
 last-place-requires : tie.Need-last-place-requires

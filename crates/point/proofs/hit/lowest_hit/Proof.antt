@@ -2,7 +2,7 @@ use mathlib.Core.Path.{_∙_}
 use Prim.Native.Nat.{ℕ, suc, _≤_, _+_, _-_}
 use mathlib.Core.Path.{_≡_, refl, ap}
 use native.Mathlib.Omega.{arith}
-use Rattle.session.specs.Bytes.{down, stepAt}
+use Rattle.stored.specs.Bytes.{down, stepAt}
 use Rattle.point.specs.Point.{lowest}
 use Rattle.point.specs.Tables.{hitIn}
 use Rattle.point.proofs.PointLaws.{lowest-hit, lowest-miss, lowest-none}

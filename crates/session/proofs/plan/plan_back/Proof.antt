@@ -1,9 +1,9 @@
 -- `session::plan::plan_back` meets its contract. Assumes nothing.
 use Rattle.session.proofs.PlanLaws.{back-wrong, back-none, back-yes, back-small}
-use Rattle.session.proofs.BytesLaws.{length-down}
+use Rattle.stored.proofs.BytesLaws.{length-down}
 use Prim.Native.Nat.{ℕ, _-_}
-use Rattle.session.specs.Bytes.{stepAt, down}
-use Rattle.session.specs.Tables.{tabled}
+use Rattle.stored.specs.Bytes.{stepAt, down}
+use Rattle.replay.specs.Tables.{tabled}
 use mathlib.Core.Path.{_≡_, sym, _∙_}
 use native.Mathlib.Omega.{arith}
 use borrow.Author.Needs.{needs}

@@ -1,7 +1,7 @@
 -- `session::plan::plan_on` meets its contract. Assumes nothing.
 use Prim.Native.Nat.{ℕ}
 use Rattle.session.proofs.PlanLaws.{plan-wrong, plan-full, plan-yes, planned-small}
-use Rattle.session.specs.Tables.{tabled}
+use Rattle.replay.specs.Tables.{tabled}
 use mathlib.Core.Path.{_≡_, sym, _∙_}
 use native.Mathlib.Omega.{arith}
 use borrow.Author.Needs.{needs}

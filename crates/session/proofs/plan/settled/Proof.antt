@@ -1,8 +1,8 @@
 -- `session::plan::settled` meets its contract. Assumes nothing.
 use Rattle.session.proofs.PlanLaws.{settled-long, settled-no, settled-off, settled-yes}
-use Rattle.session.proofs.BytesLaws.{length-down}
-use Rattle.session.specs.Bytes.{stepAt}
-use Rattle.session.specs.Tables.{tabled}
+use Rattle.stored.proofs.BytesLaws.{length-down}
+use Rattle.stored.specs.Bytes.{stepAt}
+use Rattle.replay.specs.Tables.{tabled}
 use mathlib.Core.Path.{sym, _∙_}
 use native.Mathlib.Omega.{arith}
 use borrow.Author.Needs.{needs}

@@ -1,10 +1,10 @@
 -- `session::touch::changed` meets its contract. Assumes nothing.
 use Rattle.session.proofs.TouchLaws.{draw-near, hide-changed, draw-changed}
-use Rattle.session.specs.Plans.{entries, sceneAfter}
+use Rattle.stored.specs.Bytes.{entries, stepAt, down}
+use Rattle.replay.specs.Replay.{sceneAfter}
 use Rattle.scene.specs.declared.Step.{Step}
 use Rattle.scene.specs.Steps.{Scene, refusal}
-use Rattle.session.specs.Bytes.{stepAt, down}
-use Rattle.session.specs.Tables.{tabled}
+use Rattle.replay.specs.Tables.{tabled}
 use mathlib.Core.Path.{_≡_, subst}
 use native.Mathlib.Omega.{arith}
 use borrow.Author.Needs.{needs}

@@ -1,5 +1,5 @@
 -- `session::touch::is_covered` meets its contract. Assumes nothing.
-use Rattle.session.specs.Tables.{tabled}
+use Rattle.replay.specs.Tables.{tabled}
 use Rattle.scene.specs.Painting.{covers}
 use borrow.Author.Needs.{needs}
 use Rattle.session.proofs.touch.is_covered.Statement.{statement}

@@ -4,8 +4,9 @@ use mathlib.Core.Path.{_≡_, refl, ap, _∙_}
 use mathlib.Core.List.{List}
 use lib.ListN.{length, length-set, set}
 use native.Mathlib.Omega.{arith}
-use Rattle.session.specs.Plans.{entries, flag, flagged}
-use Rattle.session.specs.Tables.{tabled}
+use Rattle.stored.specs.Bytes.{entries}
+use Rattle.session.specs.Plans.{flag, flagged}
+use Rattle.replay.specs.Tables.{tabled}
 use Rattle.scene.specs.declared.Entry.{Entry}
 use Rattle.scene.specs.Steps.{some}
 use Rattle.scene.specs.Painting.{covers}

@@ -6,11 +6,12 @@ use mathlib.Core.List.{List}
 use lib.ListN.{length, take}
 use native.Mathlib.Omega.{arith}
 use borrow.Author.Needs.{needs}
-use Rattle.session.specs.Tables.{tabled}
+use Rattle.replay.specs.Tables.{tabled}
 use Rattle.scene.specs.declared.Entry.{Entry}
 use Rattle.scene.specs.Steps.{some}
 use Rattle.scene.specs.Painting.{covers}
-use Rattle.session.proofs.Lists.{some-more, length-of-map}
+use Rattle.stored.proofs.Lists.{length-of-map}
+use Rattle.replay.proofs.Lists.{some-more}
 use Rattle.session.proofs.touch.some_covers.Statement.{statement}
 use Rattle.session.proofs.touch.some_covers.Tie as tie
 

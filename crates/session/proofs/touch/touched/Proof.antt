@@ -1,8 +1,8 @@
 -- `session::touch::touched` meets its contract. Assumes nothing.
 use Rattle.session.proofs.TouchLaws.{touched-is}
-use Rattle.session.specs.Plans.{entries, sceneAfter}
-use Rattle.session.specs.Bytes.{stepAt, down}
-use Rattle.session.specs.Tables.{tabled}
+use Rattle.stored.specs.Bytes.{entries, stepAt, down}
+use Rattle.replay.specs.Replay.{sceneAfter}
+use Rattle.replay.specs.Tables.{tabled}
 use borrow.Author.Needs.{needs}
 use Rattle.session.proofs.touch.touched.Statement.{statement}
 use Rattle.session.proofs.touch.touched.Tie as tie

@@ -1,0 +1,4 @@
+pub mod Lists
+pub mod TablesLaws
+pub mod ReplayLaws
+pub mod JudgedLaws

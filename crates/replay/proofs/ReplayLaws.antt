@@ -1,0 +1,180 @@
+-- Laws of a replay: every shown entry stands at its object's last place and is of an image that is there; no history of more than 64
+-- steps replays. Assumes nothing.
+use Prim.Native.Nat.{ℕ, suc, _<_, _≤_}
+use mathlib.Core.Path.{_≡_, refl, sym, ap, ap₂, _∙_}
+use mathlib.Core.Bool.{Bool, true, false, cond, not, _&&_, _||_}
+use mathlib.Core.List.{List, [], _∷_}
+use lib.Dec.{eqb, leb}
+use lib.ListN.{getD, length}
+use native.Mathlib.Omega.{arith}
+use borrow.Author.Tests.{eq-eqb, eqb-true, leb-false}
+use Rattle.scene.specs.declared.Entry.{Entry}
+use Rattle.scene.specs.declared.Place.{Place}
+use Rattle.scene.specs.declared.Step.{Step}
+use Rattle.scene.specs.declared.Step.the-variants.{Draw, Hide}
+use Rattle.scene.specs.Painting.{Room}
+use Rattle.scene.specs.Steps.{Scene, Spot, some, without, entryOf, sameBox, clash, removes, adds, moves, applied, allowed, refusal, bare, replay, replays}
+use Rattle.scene.specs.Session.{sameEntry, sameList, rightFor, sceneOf}
+use Rattle.scene.proofs.Reading.{right-means}
+use Rattle.stored.specs.Bytes.{All, Mark, mark, placed, allPlaced, isMark, sameMarks, marksFrom, stepsOf, sessionOf}
+use Rattle.stored.proofs.Lists.{all-append, all-without}
+use Rattle.replay.proofs.Lists.{append-nil}
+use Rattle.stored.proofs.BytesLaws.{marksOf}
+
+pub both : (a b : Bool) → (a && b) ≡ true → (a ≡ true) × (b ≡ true)
+both true b e = (refl, e)
+both false b e = (cc, cc)
+
+neither : (a b : Bool) → (a || b) ≡ false → a ≡ false
+neither true b e = e
+neither false b e = refl
+
+-- ---- places
+
+abbrev pub Standing : (ℕ → Spot) → Entry → Type 0
+Standing last e = (e .x ≡ last (e .object) .x) × (e .y ≡ last (e .object) .y)
+
+-- an entry of another object stays where it is
+stands-on : (sc : Scene) (o s : ℕ) (p : Place) (e : Entry) → eqb (e .object) o ≡ false → Standing (sc .last) e → Standing (moves sc (Draw o s p)) e
+unfolding moves
+stands-on sc o s p e h a = rw (h) a
+
+drawn-stands : (sc : Scene) (o s : ℕ) (p : Place) → Standing (moves sc (Draw o s p)) (entryOf sc o s p)
+unfolding moves entryOf
+drawn-stands sc o s p = rw (eq-eqb o o refl) (refl, refl)
+
+module _ (room : Room) where
+  applied-stands : (sc : Scene) (st : Step) → All (Standing (sc .last)) (sc .shown) → All (Standing (applied room sc st .last)) (applied room sc st .shown)
+  unfolding applied adds removes clash entryOf moves
+  applied-stands sc (Draw o s p) a =
+      all-append (Standing (moves sc (Draw o s p))) (without (λ e. clash room e (entryOf sc o s p)) (sc .shown)) (entryOf sc o s p)
+      (all-without (Standing (sc .last)) (Standing (moves sc (Draw o s p))) (λ e. clash room e (entryOf sc o s p)) (sc .shown)
+      (λ e h b. stands-on sc o s p e (neither (eqb (e .object) o) (sameBox room e (entryOf sc o s p)) h) b) a)
+      (drawn-stands sc o s p)
+  applied-stands sc (Hide o) a =
+      rw (append-nil (without (λ e. eqb (e .object) o) (sc .shown)))
+      (all-without (Standing (sc .last)) (Standing (moves sc (Hide o))) (λ e. eqb (e .object) o) (sc .shown) (λ e h b. hide-stands sc o e b) a)
+    where
+      hide-stands : (sc : Scene) (o : ℕ) (e : Entry) → Standing (sc .last) e → Standing (moves sc (Hide o)) e
+      hide-stands sc o e b = b
+
+  pub all-stand : (h : List Step) → All (Standing (replay room (bare room) h .last)) (replay room (bare room) h .shown)
+  unfolding replay bare
+  all-stand [] = tt
+  all-stand (st ∷ h) = applied-stands (replay room (bare room) h) st (all-stand h)
+
+-- the marks of entries that stand at their objects' last places say the whole entries
+and-yes : (b : Bool) → b ≡ (b && true)
+and-yes true = refl
+and-yes false = refl
+
+mark-entry : (last : ℕ → Spot) (o s : ℕ) (e : Entry) → Standing last e → isMark (mark o s) e ≡ sameEntry (placed last (mark o s)) e
+unfolding sameEntry
+mark-entry last o s e a = go (eqb o (e .object)) refl
+  where
+    go : (t : Bool) → eqb o (e .object) ≡ t
+        → (t && eqb s (e .state)) ≡ (t && eqb s (e .state) && eqb (last o .x) (e .x) && eqb (last o .y) (e .y))
+    go false q = refl
+    go true q =
+        let r = eqb-true o (e .object) q in
+        rw (eq-eqb (last o .x) (e .x) (ap (λ (k : ℕ). last k .x) r ∙ sym (a .0)), eq-eqb (last o .y) (e .y) (ap (λ (k : ℕ). last k .y) r ∙ sym (a .1)))
+        (and-yes (eqb s (e .state)) ∙ and-yes (eqb s (e .state) && true))
+
+same-placed : (last : ℕ → Spot) (ms : List Mark) (es : List Entry) → All (Standing last) es → sameMarks ms es ≡ sameList (allPlaced last ms) es
+unfolding sameMarks sameList allPlaced
+same-placed last [] [] a = refl
+same-placed last [] (e ∷ es) a = refl
+same-placed last (m ∷ ms) [] a = refl
+same-placed last (mark o s ∷ ms) (e ∷ es) a = ap₂ _&&_ (mark-entry last o s e (a .0)) (same-placed last ms es (a .1))
+
+pub placed-back : (last : ℕ → Spot) (es : List Entry) → All (Standing last) es → allPlaced last (marksOf es) ≡ es
+unfolding allPlaced
+placed-back last [] a = refl
+placed-back last (e ∷ es) a =
+    ap₂ _∷_ (λ i. record { object = e .object; state = e .state; x = sym (a .0 .0) i; y = sym (a .0 .1) i }) (placed-back last es (a .1))
+
+-- ---- an accepted step
+
+never : (n : ℕ) → suc n ≡ 0 → ⊥
+never n q = omega arith
+
+not-ten : (t : Bool) (k : ℕ) → cond t 10 k ≡ 0 → (t ≡ false) × (k ≡ 0)
+not-ten true k e = absurd (never 9 e)
+not-ten false k e = (refl, e)
+
+then : (t : Bool) (n k : ℕ) → cond (not t) (suc n) k ≡ 0 → (t ≡ true) × (k ≡ 0)
+then true n k e = (refl, e)
+then false n k e = absurd (never n e)
+
+module _ (room : Room) where
+  pub accepted-few : (n : ℕ) (sc : Scene) (st : Step) → refusal room n sc st ≡ 0 → n < 64
+  unfolding refusal
+  accepted-few n sc (Draw o s p) e = leb-false 64 n (not-ten (leb 64 n) _ e .0)
+  accepted-few n sc (Hide o) e = leb-false 64 n (not-ten (leb 64 n) _ e .0)
+
+  pub accepted-draw : (n : ℕ) (sc : Scene) (o s : ℕ) (p : Place) → refusal room n sc (Draw o s p) ≡ 0
+      → (room .drawable o s ≡ true) × (allowed room (entryOf sc o s p) ≡ true)
+  unfolding refusal
+  accepted-draw n sc o s p e =
+      let a = then (room .drawable o s) 10 _ (not-ten (leb 64 n) _ e .1) in
+      (a .0, then (allowed room (entryOf sc o s p)) 11 _ (a .1) .0)
+
+  pub accepted-hide : (n : ℕ) (sc : Scene) (o : ℕ) → refusal room n sc (Hide o) ≡ 0 → some (λ e. eqb (e .object) o) (sc .shown) ≡ true
+  unfolding refusal
+  accepted-hide n sc o e = go (some (λ e. eqb (e .object) o) (sc .shown)) (not-ten (leb 64 n) _ e .1)
+    where
+      go : (t : Bool) → _≡_ {A = ℕ} (cond t 0 11) 0 → t ≡ true
+      go true q = refl
+      go false q = absurd (never 10 q)
+
+  -- ---- a history that replays
+
+  pub replays-older : (st : Step) (h : List Step) → replays room (bare room) (st ∷ h) ≡ true
+      → (replays room (bare room) h ≡ true) × (refusal room (length h) (replay room (bare room) h) st ≡ 0)
+  unfolding replays
+  replays-older st h e =
+      let a = both (replays room (bare room) h) (eqb (refusal room (length h) (replay room (bare room) h) st) 0) e in
+      (a .0, eqb-true (refusal room (length h) (replay room (bare room) h) st) 0 (a .1))
+
+  pub replays-few : (h : List Step) → replays room (bare room) h ≡ true → length h ≤ 64
+  replays-few [] e = omega arith
+  replays-few (st ∷ h) e = accepted-few (length h) (replay room (bare room) h) st (replays-older st h e .1)
+
+  -- every shown entry is of an image that is there
+  abbrev pub There : Entry → Type 0
+  There e = room .drawable (e .object) (e .state) ≡ true
+
+  pub applied-there : (n : ℕ) (sc : Scene) (st : Step) → refusal room n sc st ≡ 0 → All There (sc .shown) → All There (applied room sc st .shown)
+  unfolding applied adds entryOf
+  applied-there n sc (Draw o s p) e a =
+      all-append There (without (removes room sc (Draw o s p)) (sc .shown)) (entryOf sc o s p)
+      (all-without There There (removes room sc (Draw o s p)) (sc .shown) (λ f q b. b) a) (accepted-draw n sc o s p e .0)
+  applied-there n sc (Hide o) e a =
+      rw (append-nil (without (removes room sc (Hide o)) (sc .shown)))
+      (all-without There There (removes room sc (Hide o)) (sc .shown) (λ f q b. b) a)
+
+  pub all-there : (h : List Step) → replays room (bare room) h ≡ true → All There (replay room (bare room) h .shown)
+  unfolding replay bare
+  all-there [] e = tt
+  all-there (st ∷ h) e =
+      let a = replays-older st h e in
+      applied-there (length h) (replay room (bare room) h) st (a .1) (all-there h (a .0))
+
+  -- ---- the session that bytes hold
+
+  pub right-is : (l : List ℕ)
+      → rightFor room (sessionOf room l)
+      ≡ (replays room (bare room) (stepsOf l) && sameMarks (marksFrom l 0 (getD l 1 0)) (replay room (bare room) (stepsOf l) .shown))
+  unfolding rightFor sessionOf
+  right-is l =
+      ap (λ (b : Bool). replays room (bare room) (stepsOf l) && b)
+      (sym (same-placed (replay room (bare room) (stepsOf l) .last) (marksFrom l 0 (getD l 1 0)) (replay room (bare room) (stepsOf l) .shown) (all-stand room (stepsOf l))))
+
+  pub right-shown : (l : List ℕ) → rightFor room (sessionOf room l) ≡ true
+      → (replays room (bare room) (stepsOf l) ≡ true) × (sessionOf room l .shown ≡ replay room (bare room) (stepsOf l) .shown)
+  unfolding sessionOf
+  right-shown l e = right-means room (sessionOf room l) e
+
+  pub right-scene : (l : List ℕ) → rightFor room (sessionOf room l) ≡ true → sceneOf room (sessionOf room l) ≡ replay room (bare room) (stepsOf l)
+  unfolding sceneOf sessionOf
+  right-scene l e = λ i. record { shown = right-shown l e .1 i; last = replay room (bare room) (stepsOf l) .last }

@@ -1,0 +1,58 @@
+-- `replay::history::replayed` meets its contract. Assumes nothing.
+use Rattle.replay.specs.Replay.{Replayed}
+use Rattle.stored.specs.Bytes.{stepAt, down}
+use Rattle.replay.specs.Tables.{tabled}
+use Rattle.scene.specs.Steps.{bare, replay, replays}
+use borrow.Author.Tests.{eq-eqb}
+use mathlib.Core.Path.{_≡_}
+use Prim.Native.Nat.{_≤_, _-_}
+use native.Mathlib.Numerals.{add-one}
+use native.Mathlib.Omega.{arith}
+use Rattle.replay.proofs.history.replayed.Statement.{statement}
+use Rattle.replay.proofs.history.replayed.Tie as tie
+
+abbrev Inv-loop : tie.InvT-loop
+Inv-loop session objects verdicts size upto s₀ i₀ s i = (i ≤ upto) × (upto ≤ 64) × Replayed (tabled objects verdicts size) (down (stepAt session) i) s
+
+abbrev μ-loop : tie.MeasureT-loop
+μ-loop session objects verdicts size upto s₀ i₀ s i = upto - i
+
+empty-requires : tie.Need-empty-requires Inv-loop μ-loop
+empty-requires c κs = tt
+
+loop-holds : tie.Need-loop-holds Inv-loop μ-loop
+unfolding replays replay bare
+loop-holds c = (omega arith, c .before .before .before .before .pre .0, record { right = eq-eqb (c .empty .result .refusal) 0 (c .empty .ensures .2); list = λ q. c .empty .ensures .0; few = omega (arith, c .empty .ensures .1) })
+
+step-at-requires : tie.Need-step-at-requires Inv-loop μ-loop
+step-at-requires c κs = omega arith
+
+next-requires : tie.Need-next-requires Inv-loop μ-loop
+next-requires c κs = let p = c .before .before .before .before .before .before .before .pre in (omega arith, p .1, p .2, p .3, p .4, c .before .before .loop .inv .2)
+
+add-i : tie.Need-add-i Inv-loop μ-loop
+add-i c = omega arith
+
+loop-less : tie.Need-loop-less Inv-loop μ-loop
+loop-less c = omega arith
+
+loop-again : tie.Need-loop-again Inv-loop μ-loop
+loop-again c = (omega arith, c .before .before .before .loop .inv .1, rw (add-one (c .before .before .before .loop .i), ← c .before .step-at .ensures) (c .next .ensures))
+
+returns : tie.Need-returns Inv-loop μ-loop
+returns c = let e : c .before .loop .i ≡ c .before .before .before .before .before .before .args .upto = omega arith in rw (← e) (c .before .loop .inv .2)
+
+pub replayed-spec : {M : Type 1} → statement M
+replayed-spec =
+    tie.close
+    (tie.spec
+    Inv-loop
+    μ-loop
+    empty-requires
+    loop-holds
+    step-at-requires
+    next-requires
+    add-i
+    loop-less
+    loop-again
+    returns)

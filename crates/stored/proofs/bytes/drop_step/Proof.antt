@@ -1,0 +1,37 @@
+-- `stored::bytes::drop_step` meets its contract. Assumes nothing.
+use borrow.Author.Needs.{needs}
+use Rattle.stored.proofs.bytes.drop_step.Statement.{statement}
+use Rattle.stored.proofs.bytes.drop_step.Tie as tie
+
+slice-read-count : tie.Need-slice-read-count
+slice-read-count c = search needs
+
+count-requires : tie.Need-count-requires
+count-requires c κs = search needs
+
+sub-session : tie.Need-sub-session
+sub-session c = search needs
+
+cast-session : tie.Need-cast-session
+cast-session c = search needs
+
+slice-write-session : tie.Need-slice-write-session
+slice-write-session c = search needs
+
+same-length : tie.Need-same-length
+same-length c = search needs
+
+returns : tie.Need-returns
+returns c = rw (c .count .ensures .0)
+
+pub drop-step-spec : {M : Type 1} → statement M
+drop-step-spec =
+    tie.close
+    (tie.spec
+    slice-read-count
+    count-requires
+    sub-session
+    cast-session
+    slice-write-session
+    same-length
+    returns)

@@ -1,0 +1,142 @@
+-- A session in 450 lent bytes: the count of steps at 0, the count of shown entries at 1, step i at 2 + 5 i, the mark of shown entry j at
+-- 322 + 2 j, the oldest first. Bytes past the counts are not looked at. Assumes nothing.
+use Prim.Native.Nat.{ℕ, zero, suc, _+_, _*_, _-_, _≤_}
+use mathlib.Core.Bool.{Bool, true, false, cond, _&&_}
+use mathlib.Core.List.{List, [], _∷_}
+use lib.Dec.{eqb, leb}
+use lib.ListN.{getD, set, take, length}
+use Rattle.scene.specs.declared.Entry.{Entry}
+use Rattle.scene.specs.declared.Place.the-variants.{Last, Strip}
+use Rattle.scene.specs.declared.Step.{Step}
+use Rattle.scene.specs.declared.Step.the-variants.{Draw, Hide}
+use Rattle.scene.specs.Painting.{Room}
+use Rattle.scene.specs.Steps.{Spot, bare, replay}
+use Rattle.scene.specs.Session.{Session}
+use Rattle.stored.specs.declared.Shown.{Shown}
+
+-- f 0 to f (n - 1), the newest, f (n - 1), first
+abbrev pub down : {A : Type 0} → (ℕ → A) → ℕ → List A
+down f zero = []
+down f (suc n) = f n ∷ down f n
+
+-- ---- a step in five bytes: kind (0 hide, 1 draw at the last place, else draw at a strip position), object, state, a, b
+
+abbrev pub stepOf : ℕ → ℕ → ℕ → ℕ → ℕ → Step
+stepOf zero o s a b = Hide o
+stepOf (suc zero) o s a b = Draw o s Last
+stepOf (suc (suc k)) o s a b = Draw o s (Strip a b)
+
+abbrev pub stepAt : List ℕ → ℕ → Step
+stepAt l i = stepOf (getD l (2 + 5 * i) 0) (getD l (2 + 5 * i + 1) 0) (getD l (2 + 5 * i + 2) 0) (getD l (2 + 5 * i + 3) 0) (getD l (2 + 5 * i + 4) 0)
+
+abbrev pub kindOf : Step → ℕ
+kindOf (Hide o) = 0
+kindOf (Draw o s Last) = 1
+kindOf (Draw o s (Strip a b)) = 2
+
+abbrev pub objectOf : Step → ℕ
+objectOf (Hide o) = o
+objectOf (Draw o s p) = o
+
+abbrev pub stateOf : Step → ℕ
+stateOf (Hide o) = 0
+stateOf (Draw o s p) = s
+
+abbrev pub aOf : Step → ℕ
+aOf (Hide o) = 0
+aOf (Draw o s Last) = 0
+aOf (Draw o s (Strip a b)) = a
+
+abbrev pub bOf : Step → ℕ
+bOf (Hide o) = 0
+bOf (Draw o s Last) = 0
+bOf (Draw o s (Strip a b)) = b
+
+abbrev pub put5 : List ℕ → ℕ → ℕ → ℕ → ℕ → ℕ → ℕ → List ℕ
+put5 l at k o s a b = set (set (set (set (set l at k) (at + 1) o) (at + 2) s) (at + 3) a) (at + 4) b
+
+abbrev pub putStep : List ℕ → ℕ → Step → List ℕ
+putStep l i t = put5 l (2 + 5 * i) (kindOf t) (objectOf t) (stateOf t) (aOf t) (bOf t)
+
+-- the numbers of an accepted step fit a byte each
+abbrev pub Small : Step → Type 0
+Small (Hide o) = o ≤ 128
+Small (Draw o s Last) = (o ≤ 128) × (s ≤ 9)
+Small (Draw o s (Strip a b)) = (o ≤ 128) × (s ≤ 9) × (a ≤ 127) × (b ≤ 24)
+
+-- ---- the shown list: of each entry its object and its state, for its place is its object's last place
+
+pub data Mark : Type 0 where
+  mark : ℕ → ℕ → Mark
+
+abbrev pub markAt : List ℕ → ℕ → Mark
+markAt l j = mark (getD l (322 + 2 * j) 0) (getD l (322 + 2 * j + 1) 0)
+
+-- n marks, from mark k on
+unfoldable pub marksFrom : List ℕ → ℕ → ℕ → List Mark
+marksFrom l k zero = []
+marksFrom l k (suc n) = markAt l k ∷ marksFrom l (suc k) n
+
+abbrev pub placed : (ℕ → Spot) → Mark → Entry
+placed last (mark o s) = record { object = o; state = s; x = last o .x; y = last o .y }
+
+unfoldable pub allPlaced : (ℕ → Spot) → List Mark → List Entry
+allPlaced last [] = []
+allPlaced last (m ∷ ms) = placed last m ∷ allPlaced last ms
+
+abbrev pub isMark : Mark → Entry → Bool
+isMark (mark o s) e = eqb o (e .object) && eqb s (e .state)
+
+unfoldable pub sameMarks : List Mark → List Entry → Bool
+sameMarks [] [] = true
+sameMarks [] (e ∷ es) = false
+sameMarks (m ∷ ms) [] = false
+sameMarks (m ∷ ms) (e ∷ es) = isMark m e && sameMarks ms es
+
+-- the marks of the entries, stored from mark k on; other bytes stay
+unfoldable pub putMarks : List ℕ → ℕ → List Entry → List ℕ
+putMarks l k [] = l
+putMarks l k (e ∷ es) = putMarks (set (set l (322 + 2 * k) (e .object)) (322 + 2 * k + 1) (e .state)) (suc k) es
+
+abbrev pub putShown : List ℕ → List Entry → List ℕ
+putShown l es = set (putMarks l 0 es) 1 (length es)
+
+-- the list that an answer holds, the oldest entry first
+abbrev pub entries : Shown → List Entry
+entries s = take (s .n) (s .list)
+
+-- every entry of a list
+abbrev pub All : (Entry → Type 0) → List Entry → Type 0
+All P [] = Unit {0}
+All P (e ∷ es) = P e × All P es
+
+-- the marks of shown entries fit a byte each
+abbrev pub SmallEntry : Entry → Type 0
+SmallEntry e = (e .object ≤ 128) × (e .state ≤ 9)
+
+-- ---- the session
+
+-- the history, newest first
+abbrev pub stepsOf : List ℕ → List Step
+stepsOf l = down (stepAt l) (getD l 0 0)
+
+-- the steps that a call reads: a count above 64 is refused before any
+unfoldable pub readable : List ℕ → List Step
+readable l = cond (leb (getD l 0 0) 64) (stepsOf l) []
+
+unfoldable pub sessionOf : Room → List ℕ → Session
+sessionOf room l =
+    record { history = stepsOf l; shown = allPlaced (replay room (bare room) (stepsOf l) .last) (marksFrom l 0 (getD l 1 0)) }
+
+-- the bytes after an accepted step, and after a take-back, that leave a shown list
+abbrev pub putNewest : List ℕ → Step → List ℕ
+putNewest l st = set (putStep l (getD l 0 0) st) 0 (getD l 0 0 + 1)
+
+abbrev pub dropNewest : List ℕ → List ℕ
+dropNewest l = set l 0 (getD l 0 0 - 1)
+
+abbrev pub afterStep : List ℕ → Step → List Entry → List ℕ
+afterStep l st es = putShown (putNewest l st) es
+
+abbrev pub afterBack : List ℕ → List Entry → List ℕ
+afterBack l es = putShown (dropNewest l) es
