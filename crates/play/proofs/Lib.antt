@@ -1,4 +1,3 @@
-pub mod VerdictLaws
 pub mod FlatLaws
 pub mod StepLaws
 pub mod MakeLaws

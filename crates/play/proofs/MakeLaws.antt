@@ -26,10 +26,10 @@ use Rattle.session.proofs.PlanLaws.{accepted-plan}
 use Rattle.replay.proofs.ReplayLaws.{right-shown}
 use Rattle.repaint.specs.Decoded.{decoded, entryAt, entriesOf}
 use Rattle.repaint.specs.Ready.{Paintable, Listed}
-use Rattle.play.specs.Size.{sizeOf}
+use Rattle.verdict.specs.Size.{sizeOf}
 use Rattle.play.specs.Calls.{outcome, kept}
 use Rattle.play.proofs.StepLaws.{called-refused, called-made, plan-number, plan-ok, plan-no, rebuilt-by, Fine, applied-fine, all-fine}
-use Rattle.play.proofs.VerdictLaws.{fault-passed}
+use Rattle.verdict.proofs.VerdictLaws.{fault-passed}
 
 -- ---- entries that can be painted, by their numbers
 

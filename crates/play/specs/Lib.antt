@@ -1,4 +1,2 @@
-pub mod Size
-pub mod Verdict
 pub mod Calls
 pub mod Bytes

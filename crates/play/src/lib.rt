@@ -4,4 +4,3 @@ pub mod calls;
 pub mod flat;
 pub mod step;
 pub mod undo;
-pub mod verdict;

@@ -6,12 +6,9 @@ ghost use Rattle.room.specs.Test.{strips};
 ghost use Rattle.image.specs.Image.{objectCount};
 ghost use Rattle.repaint.specs.Ready.{Ready};
 ghost use Rattle.scene.specs.Session.{make};
-ghost use Rattle.play.specs.Size.{sizeOf};
 ghost use Rattle.play.specs.Calls.{outcome, kept};
 use crate::flat::flatten;
-use crate::verdict::judge;
 use repaint::rebuild;
-use replay::Size;
 use room::Room;
 use scene::Step;
 use session::plan::plan_on;
@@ -20,16 +17,8 @@ use session::touch::touched;
 use stored::bytes::count;
 use stored::bytes::store_shown;
 use stored::bytes::store_step;
-
-pub fn size_of(r: Room) -> Size
-    ensures { λ z. ⌜ z ≡ sizeOf r ⌝ }
-{
-    Size {
-        strips: r.width / 8,
-        height: r.height,
-        count: r.objects,
-    }
-}
+use verdict::judge::judge;
+use verdict::size::size_of;
 
 // A draw or a hide: its number.
 pub fn make_step(

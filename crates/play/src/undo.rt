@@ -8,8 +8,6 @@ ghost use Rattle.repaint.specs.Ready.{Ready};
 ghost use Rattle.scene.specs.Session.{takeBack};
 ghost use Rattle.play.specs.Calls.{outcome, kept};
 use crate::flat::flatten;
-use crate::step::size_of;
-use crate::verdict::judge_history;
 use repaint::rebuild;
 use room::Room;
 use session::plan::plan_back;
@@ -18,6 +16,8 @@ use stored::bytes::count;
 use stored::bytes::drop_step;
 use stored::bytes::step_at;
 use stored::bytes::store_shown;
+use verdict::judge::judge_history;
+use verdict::size::size_of;
 
 // A take-back: its number.
 pub fn undo_step(

@@ -23,7 +23,7 @@ use Rattle.replay.specs.declared.Size.{Size}
 use Rattle.session.proofs.Caller.{settled-known}
 use Rattle.replay.proofs.JudgedLaws.{plan-means}
 use Rattle.repaint.specs.Decoded.{decoded}
-use Rattle.play.specs.Size.{sizeOf}
+use Rattle.verdict.specs.Size.{sizeOf}
 use Rattle.point.specs.Objects.{objectsOf}
 use Rattle.point.specs.Point.{objectAt}
 use Rattle.point.specs.Call.{found, inside, asked}

@@ -16,8 +16,6 @@ use crate::boxes::list_boxes;
 use crate::hit::lowest_hit;
 use climb::states::fill_states;
 use image::gather::gather;
-use play::step::size_of;
-use play::verdict::judge_history;
 use replay::Size;
 use replay::tables::wide;
 use room::Room;
@@ -27,6 +25,8 @@ use room::test::test_room;
 use session::plan::settled;
 use stored::Shown;
 use stored::bytes::count;
+use verdict::judge::judge_history;
+use verdict::size::size_of;
 
 // The object under a point of the room, 0 for none, with the shown list of a session that is right.
 fn seek(

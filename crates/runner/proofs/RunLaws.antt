@@ -31,7 +31,7 @@ use Rattle.scene.specs.declared.Step.the-variants.{Draw, Hide}
 use Rattle.repaint.specs.Decoded.{decoded}
 use Rattle.play.specs.Bytes.{Lent, testOf, afterLoad, afterCall, numberOf, bytesAfter}
 use Rattle.play.specs.Calls.{stateOf, callNumber}
-use Rattle.play.proofs.VerdictLaws.{LowTest, low-then, low-leftmost, low-block, low-plane, low-fault}
+use Rattle.verdict.proofs.VerdictLaws.{LowTest, low-then, low-leftmost, low-block, low-plane, low-fault}
 use Rattle.runner.specs.Coded.{callAt, callsOf}
 use Rattle.runner.specs.Run.{lentOf, played, playedNumber, putFirst}
 

@@ -16,8 +16,8 @@ use Rattle.play.proofs.undo.undo_step.Tie as tie
 use Rattle.play.proofs.undo.undo_step.Reads as reads
 use Rattle.play.proofs.undo.undo_step.Lts as lts
 use Rattle.play.proofs.flat.flatten.Reads as flatten-reads
-use Rattle.play.proofs.step.size_of.Reads as size-of-reads
-use Rattle.play.proofs.verdict.judge_history.Reads as judge-history-reads
+use Rattle.verdict.proofs.size.size_of.Reads as size-of-reads
+use Rattle.verdict.proofs.judge.judge_history.Reads as judge-history-reads
 use Rattle.repaint.proofs.rebuild.Reads as rebuild-reads
 use Rattle.stored.proofs.bytes.count.Reads as count-reads
 use Rattle.stored.proofs.bytes.drop_step.Reads as drop-step-reads

@@ -8,8 +8,8 @@ use Rattle.point.proofs.call.ask.Statement.{statement}
 use Rattle.point.proofs.call.ask.Tie as tie
 use Rattle.point.proofs.call.ask.Reads as reads
 use Rattle.point.proofs.call.ask.Lts as lts
-use Rattle.play.proofs.step.size_of.Reads as size-of-reads
-use Rattle.play.proofs.verdict.judge_history.Reads as judge-history-reads
+use Rattle.verdict.proofs.size.size_of.Reads as size-of-reads
+use Rattle.verdict.proofs.judge.judge_history.Reads as judge-history-reads
 use Rattle.point.proofs.call.answer.Reads as answer-reads
 use Rattle.point.proofs.call.seek.Reads as seek-reads
 use Rattle.session.proofs.plan.settled.Reads as settled-reads

@@ -1,8 +1,8 @@
--- `play::verdict::judge_history` meets its contract. Assumes nothing.
-use Rattle.play.proofs.VerdictLaws.{judged-knows}
+-- `verdict::judge::judge_history` meets its contract. Assumes nothing.
+use Rattle.verdict.proofs.VerdictLaws.{judged-knows}
 use borrow.Author.Needs.{needs}
-use Rattle.play.proofs.verdict.judge_history.Statement.{statement}
-use Rattle.play.proofs.verdict.judge_history.Tie as tie
+use Rattle.verdict.proofs.judge.judge_history.Statement.{statement}
+use Rattle.verdict.proofs.judge.judge_history.Tie as tie
 
 judge-steps-requires : tie.Need-judge-steps-requires
 judge-steps-requires c κs = search needs

@@ -1,8 +1,8 @@
--- `play::verdict::judge_step` meets its contract. Assumes nothing.
-use Rattle.play.proofs.VerdictLaws.{judged-step, judged-hidden}
+-- `verdict::judge::judge_step` meets its contract. Assumes nothing.
+use Rattle.verdict.proofs.VerdictLaws.{judged-step, judged-hidden}
 use borrow.Author.Needs.{needs}
-use Rattle.play.proofs.verdict.judge_step.Statement.{statement}
-use Rattle.play.proofs.verdict.judge_step.Tie as tie
+use Rattle.verdict.proofs.judge.judge_step.Statement.{statement}
+use Rattle.verdict.proofs.judge.judge_step.Tie as tie
 
 enum-known-step : tie.Need-enum-known-step
 enum-known-step c = search needs

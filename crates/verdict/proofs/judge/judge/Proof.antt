@@ -1,8 +1,8 @@
--- `play::verdict::judge` meets its contract. Assumes nothing.
-use Rattle.play.proofs.VerdictLaws.{judged-knows}
+-- `verdict::judge::judge` meets its contract. Assumes nothing.
+use Rattle.verdict.proofs.VerdictLaws.{judged-knows}
 use borrow.Author.Needs.{needs}
-use Rattle.play.proofs.verdict.judge.Statement.{statement}
-use Rattle.play.proofs.verdict.judge.Tie as tie
+use Rattle.verdict.proofs.judge.judge.Statement.{statement}
+use Rattle.verdict.proofs.judge.judge.Tie as tie
 
 judge-steps-requires : tie.Need-judge-steps-requires
 judge-steps-requires c κs = search needs

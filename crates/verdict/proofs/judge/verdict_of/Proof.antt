@@ -1,12 +1,12 @@
--- `play::verdict::verdict_of` meets its contract. Assumes nothing.
+-- `verdict::judge::verdict_of` meets its contract. Assumes nothing.
 use mathlib.Core.Path.{sym, _∙_}
 use native.Mathlib.Omega.{arith}
 use borrow.Author.Tests.{not-true, not-false}
 use Rattle.image.proofs.ImageLaws.{state-at, drawable-missing}
-use Rattle.play.proofs.VerdictLaws.{right-none, right-wide, right-high, right-tested}
+use Rattle.verdict.proofs.VerdictLaws.{right-none, right-wide, right-high, right-tested}
 use borrow.Author.Needs.{needs}
-use Rattle.play.proofs.verdict.verdict_of.Statement.{statement}
-use Rattle.play.proofs.verdict.verdict_of.Tie as tie
+use Rattle.verdict.proofs.judge.verdict_of.Statement.{statement}
+use Rattle.verdict.proofs.judge.verdict_of.Tie as tie
 
 image-drawable-requires : tie.Need-image-drawable-requires
 image-drawable-requires c κs = search needs

@@ -43,8 +43,8 @@ use Rattle.replay.specs.Tables.{cellOf, verdictOf, draws, names, sized, Knows}
 use Rattle.replay.proofs.TablesLaws.{cell-none, cell-row, cell-past, verdict-none, verdict-past, verdict-zero, verdict-over, verdict-cell}
 use Rattle.repaint.specs.Decoded.{decoded}
 use Rattle.repaint.specs.Ready.{Ready}
-use Rattle.play.specs.Size.{sizeOf}
-use Rattle.play.specs.Verdict.{Right, Within, cellAt, Judged}
+use Rattle.verdict.specs.Size.{sizeOf}
+use Rattle.verdict.specs.Verdict.{Right, Within, cellAt, Judged}
 
 -- ---- pixels of a strip
 

@@ -1,9 +1,9 @@
--- `play::verdict::judge_image` meets its contract. Assumes nothing.
+-- `verdict::judge::judge_image` meets its contract. Assumes nothing.
 use native.Mathlib.Omega.{arith}
-use Rattle.play.proofs.VerdictLaws.{judged-drawn, judged-new}
+use Rattle.verdict.proofs.VerdictLaws.{judged-drawn, judged-new}
 use borrow.Author.Needs.{needs}
-use Rattle.play.proofs.verdict.judge_image.Statement.{statement}
-use Rattle.play.proofs.verdict.judge_image.Tie as tie
+use Rattle.verdict.proofs.judge.judge_image.Statement.{statement}
+use Rattle.verdict.proofs.judge.judge_image.Tie as tie
 
 returns : tie.Need-returns
 returns c = λ p h j. judged-drawn _ (c .before .before .before .before .args .r) _ h (c .before .before .before .before .args .o) (c .before .before .before .before .args .s) p (λ w e. omega (arith, c .if1 .taken, w .first)) j

@@ -1,4 +1,4 @@
--- `play::verdict::judge_steps` meets its contract. Assumes nothing.
+-- `verdict::judge::judge_steps` meets its contract. Assumes nothing.
 use borrow.Author.Needs.{needs}
 use native.Mathlib.Omega.{arith}
 use lib.ListN.{length}
@@ -6,10 +6,10 @@ use native.Mathlib.Numerals.{add-one}
 use Prim.Native.Nat.{_≤_, _-_}
 use mathlib.Core.Path.{_≡_}
 use Rattle.stored.specs.Bytes.{down, stepAt}
-use Rattle.play.specs.Verdict.{Judged}
-use Rattle.play.proofs.VerdictLaws.{judged-none, judged-past, judged-all}
-use Rattle.play.proofs.verdict.judge_steps.Statement.{statement}
-use Rattle.play.proofs.verdict.judge_steps.Tie as tie
+use Rattle.verdict.specs.Verdict.{Judged}
+use Rattle.verdict.proofs.VerdictLaws.{judged-none, judged-past, judged-all}
+use Rattle.verdict.proofs.judge.judge_steps.Statement.{statement}
+use Rattle.verdict.proofs.judge.judge_steps.Tie as tie
 
 abbrev Inv-loop : tie.InvT-loop
 Inv-loop room r table session verdicts₀ n i₀ verdicts i = (i ≤ n) × (n ≤ 64) × (length verdicts ≡ length verdicts₀) × Judged room r verdicts (down (stepAt session) i)
