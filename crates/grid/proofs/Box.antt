@@ -1,17 +1,16 @@
 -- Writes to a grid, cell by cell along a row and row by row down a box, as `upd`. Assumes nothing.
-use mathlib.Core.Path.{_≡_, refl, sym, ap, _∙_}
-use mathlib.Core.Bool.{Bool, true, false, _&&_, and-false, false≢true}
-use mathlib.Core.Logic.{_⊎_, inl, inr, by-cases}
+use mathlib.Core.Path.{_≡_, sym, ap, _∙_}
+use mathlib.Core.Bool.{true, false, and-false, false≢true}
+use mathlib.Core.Logic.{by-cases}
 use mathlib.Core.List.{List}
 use Prim.Native.Nat.{ℕ, _+_, _-_, _*_, _/_, _%_, _≤_, _<_}
-use native.Mathlib.Nat.{div-add-mod', mul-le-mul-right}
+use native.Mathlib.Nat.{div-add-mod'}
 use native.Mathlib.Omega.{arith}
 use native.Mathlib.Decide.{ℕ-discrete, decLt}
 use borrow.Author.Tests.{lt-ltb, le-ltb, le-leb, lt-leb, eq-eqb, ne-eqb}
 use lib.Arith.{digits-div, digits-mod, digits-lt}
 use lib.Dec.{eqb}
 use lib.ListN.{length, getD, set}
-use lib.Seq.{set-getD}
 use Rattle.grid.specs.Grid.{pick, upd, within, rowed, boxed, Inside}
 use Rattle.grid.proofs.Upd.{getD-upd, upd-ext, upd-upd, upd-id, upd-then, set-upd}
 
@@ -95,9 +94,6 @@ module _ (w x0 y c : ℕ) (g : ℕ → ℕ → ℕ) (l px : List ℕ) (fits : x0
   pub row-write : (j v : ℕ) → j ≡ y * w + (x0 + c) → v ≡ g c (getD px j 0) → set px j v ≡ upd (rowed w x0 y (c + 1) g) l
   row-write j v e h = rw (h, e, so) (cell-more w x0 y c g l fits)
 
-  pub row-skip : (j : ℕ) → j ≡ y * w + (x0 + c) → getD px j 0 ≡ g c (getD px j 0) → px ≡ upd (rowed w x0 y (c + 1) g) l
-  row-skip j e h = sym (set-getD px j 0) ∙ row-write j (getD px j 0) e h
-
 -- ---- a box
 module _ (w x0 y0 bw bh : ℕ) (f : ℕ → ℕ → ℕ → ℕ) (i o : ℕ) where
   pub boxed-in : y0 ≤ i / w → i / w < y0 + bh → x0 ≤ i % w → i % w < x0 + bw → boxed w x0 y0 bw bh f i o ≡ f (i % w - x0) (i / w - y0) o
@@ -179,15 +175,6 @@ box-beside w x0 x1 y0 n m h f g l px qx b agree e q =
     q ∙ ap (upd (boxed w x1 y0 m h g)) e ∙ upd-upd (boxed w x1 y0 m h g) (boxed w x0 y0 n h f) l
     ∙ upd-ext (λ i o. boxed w x1 y0 m h g i (boxed w x0 y0 n h f i o)) (boxed w x0 y0 (n + m) h f) l (λ i k. beside-point w x0 x1 y0 n m h f g b agree i (getD l i 0))
 
--- what stands at (x, y) after a box is written
-pub boxed-at : (w x0 y0 bw bh : ℕ) (f : ℕ → ℕ → ℕ → ℕ) (l : List ℕ) (x y : ℕ)
-    → x < w
-    → y * w + x < length l
-    → getD (upd (boxed w x0 y0 bw bh f) l) (y * w + x) 0
-    ≡ pick (within y0 bh y && within x0 bw x) (f (x - x0) (y - y0) (getD l (y * w + x) 0)) (getD l (y * w + x) 0)
-unfolding boxed
-boxed-at w x0 y0 bw bh f l x y p q = getD-upd (boxed w x0 y0 bw bh f) l (y * w + x) q ∙ rw (digits-div y p, digits-mod y p)
-
 pub box-thin : (w x0 y0 bh : ℕ) (f : ℕ → ℕ → ℕ → ℕ) (l : List ℕ) → l ≡ upd (boxed w x0 y0 0 bh f) l
 box-thin w x0 y0 bh f l = sym (upd-id (boxed w x0 y0 0 bh f) l (λ i o. within-cases x0 0 (i % w) (λ p q. absurd (omega arith)) (boxed-out w x0 y0 0 bh f i o)))
 
@@ -201,18 +188,6 @@ pub column-write : (w x0 y0 r : ℕ) (f : ℕ → ℕ → ℕ → ℕ) (l px : L
     → set px j v ≡ upd (boxed w x0 y0 1 (r + 1) f) l
 column-write w x0 y0 r f l px fits so j v e h =
     box-more w x0 y0 1 r f l px _ so (row-write w x0 (y0 + r) 0 (λ c p. f c r p) px px (omega arith) (row-none w x0 (y0 + r) (λ c p. f c r p) px) j v (omega arith) h)
-
--- a row of a box ends within the buffer
-pub row-room : (n w h x0 y0 bw bh r : ℕ) → Inside n w h x0 y0 bw bh → r < bh → (y0 + r) * w + (x0 + bw) ≤ n
-row-room n w h x0 y0 bw bh r p hr = omega (arith, mul-le-mul-right w below)
-  where
-    below : y0 + r + 1 ≤ h
-    below = omega arith
-
--- a box of no cells
-pub box-empty : (w x0 y0 bw bh : ℕ) (f : ℕ → ℕ → ℕ → ℕ) (l : List ℕ) → (bw ≡ 0) ⊎ (bh ≡ 0) → l ≡ upd (boxed w x0 y0 bw bh f) l
-box-empty w x0 y0 bw bh f l (inl e) = rw e (box-thin w x0 y0 bh f l)
-box-empty w x0 y0 bw bh f l (inr e) = rw e (box-none w x0 y0 bw f l)
 
 -- a box below a box of the same width
 module _ (w x0 y0 y1 bw n m : ℕ) (f g : ℕ → ℕ → ℕ → ℕ) (below : y1 ≡ y0 + n) (agree : (c r o : ℕ) → c < bw → r < m → g c r o ≡ f c (n + r) o) (i o : ℕ) where
@@ -253,17 +228,3 @@ boxed-ext w x0 y0 bw bh f g same i o =
     (λ p q. boxed-in w x0 y0 bw bh f i o a b p q ∙ same (i % w - x0) (i / w - y0) o (omega arith) (omega arith) ∙ sym (boxed-in w x0 y0 bw bh g i o a b p q))
     (λ m. boxed-out w x0 y0 bw bh f i o m ∙ sym (boxed-out w x0 y0 bw bh g i o m)))
     (λ m. boxed-off w x0 y0 bw bh f i o m ∙ sym (boxed-off w x0 y0 bw bh g i o m))
-
--- a box that leaves every cell alone
-pub box-idle : (w x0 y0 bw bh : ℕ) (l : List ℕ) → l ≡ upd (boxed w x0 y0 bw bh (λ c r o. o)) l
-unfolding boxed
-box-idle w x0 y0 bw bh l = sym (upd-id (boxed w x0 y0 bw bh (λ c r o. o)) l (λ i o. same (within y0 bh (i / w) && within x0 bw (i % w)) o))
-  where
-    same : (b : Bool) (o : ℕ) → pick b o o ≡ o
-    same true o = refl
-    same false o = refl
-
--- by the arm that control came from: what is known of the arm first, so that the answers see its type
-pub either : {A B C : Type 0} → A ⊎ B → (A → C) → (B → C) → C
-either (inl a) f g = f a
-either (inr b) f g = g b

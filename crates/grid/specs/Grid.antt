@@ -2,9 +2,7 @@
 -- "Sizes"). Bytes that no write names stay.
 use mathlib.Core.Bool.{Bool, true, false, _&&_}
 use mathlib.Core.List.{List, [], _∷_}
-use Prim.Native.Nat.{ℕ, suc, _+_, _-_, _*_, _/_, _%_, _≤_, _<_}
-use mathlib.Core.Path.{_≡_}
-use lib.ListN.{length, getD}
+use Prim.Native.Nat.{ℕ, suc, _+_, _-_, _*_, _/_, _%_, _≤_}
 use lib.Dec.{ltb, leb, eqb}
 
 -- v where the test holds, else o
@@ -36,7 +34,3 @@ pub record Inside (n w h x0 y0 bw bh : ℕ) : Type 0 where
   pub room : w * h ≤ n
   pub right : x0 + bw ≤ w
   pub low : y0 + bh ≤ h
-
--- the first n elements are written: f gives the new value by the place and the old value
-unfoldable pub filled : ℕ → (ℕ → ℕ → ℕ) → ℕ → ℕ → ℕ
-filled n f i o = pick (ltb i n) (f i o) o

@@ -1,4 +1,4 @@
--- Laws of an image's test: it is the room's own test at the image's blocks and sizes, and what passes it.
+-- Laws of an image's test: its planes are tested as the room's are, and what passes it.
 use mathlib.Core.Path.{_≡_, refl}
 use mathlib.Core.List.{List}
 use mathlib.Core.Bool.{true, false}
@@ -16,15 +16,11 @@ use Rattle.room.specs.declared.Room.{Room}
 use Rattle.image.specs.Image.{imageWidth, imageHeight, stateBlock}
 use Rattle.image.specs.Fault.{planeIn, planeTest, picturesTest, imageTest, imageFault}
 
--- the room's planes and pictures are tested by the same definitions
+-- the room's planes are tested by the same definition
 module _ (s : List ℕ) (r : Room) where
   pub room-plane : (k : ℕ) → room.planeTest s r k ≡ planeTest (room.strips r) (r .height) s (r .image) (r .«image_end») k
   unfolding room.planeTest room.planeIn planeTest
   room-plane k = refl
-
-  pub room-pictures : room.picturesTest s r ≡ picturesTest (r .planes) (room.strips r) (r .height) s (r .image) (r .«image_end») (At (r .smap) (r .«smap_end»))
-  unfolding room.picturesTest room.planeTest room.planeIn picturesTest planeTest
-  room-pictures = refl
 
 -- the fault of an object's image, from where its state's block stands
 pub fault-at : (planes : ℕ) (s : List ℕ) (o st b z : ℕ) → At b z ≡ stateBlock s o st

@@ -207,9 +207,6 @@ gathered-of s t₀ t₁ t₂ small few long objects all listed paired =
 
 -- what the table's cells are
 module _ (s t : List ℕ) (g : Gathered s t) (o : ℕ) (one : 1 ≤ o) (le : o ≤ objectCount s) where
-  pub gathered-id : getD t (8 * o) 0 ≡ objectId s o
-  gathered-id = row-id s t o (objectId s o) (imageBlock s o) (g .row o one le)
-
   pub gathered-x : getD t (8 * o + 1) 0 ≡ homeX s o
   unfolding homeX
   gathered-x = g .row o one le 1 (omega arith)

@@ -29,10 +29,6 @@ each-upd-from n f (b ∷ bs) =
 pub each-upd : (f : ℕ → ℕ → ℕ) (l : List ℕ) → eachFrom 0 f l ≡ upd f l
 each-upd f l = each-upd-from 0 f l ∙ upd-ext (λ i. f (0 + i)) f l (λ i h. ap (λ (k : ℕ). f k (getD l i 0)) (omega arith))
 
-pub pick-cond : (b : Bool) (v o : ℕ) → pick b v o ≡ cond b v o
-pick-cond true v o = refl
-pick-cond false v o = refl
-
 -- ---- the bytes of strip k
 module _ (size : ℕ) (strip : ℕ → ℕ) (k : ℕ) where
   pub strip-in : (f : ℕ → ℕ → ℕ) (i o : ℕ) → i < size → strip i ≡ k → stripByte size strip k f i o ≡ f i o

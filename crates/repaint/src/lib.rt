@@ -8,7 +8,7 @@ pub mod read;
 
 ghost use mathlib.Core.Path.{_≡_};
 ghost use mathlib.Core.Bool.{not};
-ghost use Prim.Native.Nat.{_*_, _≤_, _<_};
+ghost use Prim.Native.Nat.{_*_, _≤_};
 ghost use lib.Dec.{eqb};
 ghost use lib.ListN.{length, getD};
 ghost use Rattle.room.specs.Test.{strips};
@@ -16,9 +16,7 @@ ghost use Rattle.scene.specs.Painting.{pixelLayout, maskLayout, rebuiltBytes};
 ghost use Rattle.repaint.specs.Decoded.{decoded, entriesOf};
 ghost use Rattle.repaint.specs.Ready.{Ready, Listed};
 use crate::masks::rebuild_masks;
-use crate::masks::strip_masks;
 use crate::pixels::rebuild_pixels;
-use crate::pixels::strip_pixels;
 use room::Room;
 
 // Where a picture is read from, a room's background or an object's image: the payload of the block that holds it, its SMAP block with
@@ -30,26 +28,6 @@ pub struct Source {
     pub smap_end: usize,
     pub strips: usize,
     pub height: usize,
-}
-
-// Rebuilds strip k of both surfaces with the first n entries; every other byte stays.
-pub fn rebuild_strip(
-    room: &[u8],
-    r: Room,
-    table: &[u32],
-    shown: &[u32],
-    n: usize,
-    k: usize,
-    pixels: &mut [u8],
-    masks: &mut [u8],
-)
-    requires { ⌜ Ready (now room) r (now table) × Listed (now room) r (now shown) n × (k < strips r) ⌝ }
-    requires { ⌜ (r .width * r .height ≤ length (now pixels)) × (strips r * (r .planes * r .height) ≤ length (now masks)) ⌝ }
-    ensures { λ _. ⌜ now (pixels .exit) ≡ rebuiltBytes (pixelLayout (decoded (now (room .entry)) r)) (entriesOf (now (shown .entry)) n) (λ t. eqb t k) (now (pixels .entry)) ⌝ }
-    ensures { λ _. ⌜ now (masks .exit) ≡ rebuiltBytes (maskLayout (decoded (now (room .entry)) r)) (entriesOf (now (shown .entry)) n) (λ t. eqb t k) (now (masks .entry)) ⌝ }
-{
-    strip_pixels(room, r, table, shown, n, k, pixels);
-    strip_masks(room, r, table, shown, n, k, masks);
 }
 
 // Rebuilds the strips of both surfaces whose byte in `touched` is not 0; every other byte stays.

@@ -138,7 +138,7 @@ fn entries_masks(
 }
 
 // Strip k of every plane over its full height: the room's planes, then the entries.
-pub fn strip_masks(
+fn strip_masks(
     room: &[u8],
     r: Room,
     table: &[u32],

@@ -2,7 +2,7 @@
 ghost use mathlib.Core.Path.{_≡_};
 ghost use mathlib.Core.Bool.{not};
 ghost use mathlib.Core.List.{[], _∷_};
-ghost use Prim.Native.Nat.{ℕ, _+_, _*_, _≤_, _<_};
+ghost use Prim.Native.Nat.{_+_, _*_, _≤_, _<_};
 ghost use lib.Dec.{eqb};
 ghost use lib.ListN.{length, getD};
 ghost use Rattle.grid.specs.Grid.{upd, boxed};
@@ -74,7 +74,7 @@ fn entries_pixels(
 }
 
 // Strip k over its full height: the background, then the entries.
-pub fn strip_pixels(
+fn strip_pixels(
     room: &[u8],
     r: Room,
     table: &[u32],

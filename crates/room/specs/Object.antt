@@ -10,15 +10,13 @@ use Rattle.block.specs.Tree.{nthTag, needTag}
 use Rattle.block.specs.declared.Found.{Found}
 use Rattle.block.specs.declared.Found.the-variants as found
 use Rattle.strip.specs.Picture.{over}
-use Rattle.room.specs.Test.{roomTest, nothing, fixedOnly}
+use Rattle.room.specs.Test.{roomTest, fixedOnly}
 use Rattle.room.specs.declared.Cdhd.{Cdhd}
 use Rattle.room.specs.declared.Lent.{Lent}
 use Rattle.room.specs.declared.Tested.{Tested}
 use Rattle.room.specs.declared.Tested.the-variants as tested
 use Rattle.room.specs.declared.Place.{Place}
 use Rattle.room.specs.declared.Place.the-variants.{At, Refused}
-use Rattle.room.specs.declared.Header.{Header}
-use Rattle.room.specs.declared.Header.the-variants as header
 
 -- what the CDHD whose payload is at p says: x, y, width and height in strips of 8 pixels, the walk point signed and in pixels
 unfoldable pub cdhdAt : List ℕ → ℕ → Cdhd
@@ -56,14 +54,6 @@ placeAfter s k (tested.Refused n) = Refused n
 
 unfoldable pub headerPlace : Lent → List ℕ → ℕ → Place
 headerPlace lent s k = placeAfter s k (roomTest lent s)
-
--- the header as numbers
-abbrev pub headerAt : List ℕ → Place → Header
-headerAt s (At p) = header.Is (cdhdAt s p)
-headerAt s (Refused n) = header.Refused n
-
-abbrev pub headerOf : List ℕ → ℕ → Header
-headerOf s k = headerAt s (headerPlace nothing s k)
 
 -- the header as 16 bytes (docs/LAYOUTS.md): the 13 of CDHD, then zeros
 unfoldable pub headerBytes : List ℕ → ℕ → List ℕ

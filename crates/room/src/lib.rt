@@ -68,9 +68,3 @@ pub enum Place {
     At(usize),
     Refused(u8),
 }
-
-// An object's header, or the number of the refusal.
-pub enum Header {
-    Is(Cdhd),
-    Refused(u8),
-}

@@ -2,16 +2,13 @@
 ghost use mathlib.Core.Path.{_≡_};
 ghost use Prim.Native.Nat.{_+_, _≤_};
 ghost use lib.ListN.{length};
-ghost use Rattle.block.specs.declared.Found.the-variants as found;
-ghost use Rattle.room.specs.Object.{cdhdAt, cdhdIn, objectBlock, headerPlace, headerOf, headerBytes, placeNumber, headerCall, headerAfter};
+ghost use Rattle.room.specs.Object.{cdhdAt, cdhdIn, objectBlock, headerPlace, headerBytes, placeNumber, headerCall, headerAfter};
 use crate::Cdhd;
-use crate::Header;
 use crate::Lent;
 use crate::Place;
 use crate::Tested;
 use crate::record::put_front;
 use crate::test::fixed_lent;
-use crate::test::nothing_lent;
 use crate::test::test_room;
 use block::Found;
 use block::need_tag;
@@ -84,19 +81,6 @@ pub fn header_place(s: &[u8], lent: Lent, k: usize) -> Place
             Found::Missing => Place::Refused(11),
         },
         Tested::Refused(number) => Place::Refused(number),
-    }
-}
-
-// The header of object `object`, as numbers.
-pub fn header(s: &[u8], object: u32) -> Header
-    ensures { λ r. ⌜ r ≡ headerOf (now (s .entry)) object ⌝ }
-{
-    match header_place(s, nothing_lent(), object as usize) {
-        Place::At(p) => {
-            let h = read_cdhd(s, p);
-            Header::Is(h)
-        }
-        Place::Refused(number) => Header::Refused(number),
     }
 }
 
