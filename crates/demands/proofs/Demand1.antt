@@ -4,13 +4,13 @@ use mathlib.Core.Path.{_≡_, refl, sym, ap, _∙_}
 use mathlib.Core.List.{List}
 use lib.ListN.{length}
 use Rattle.room.specs.Test.{numberOf, withSurfaces}
-use Rattle.room.specs.Record.{recordTest, recordAfter}
-use Rattle.room.specs.Object.{placeNumber, headerCall, headerAfter}
+use Rattle.objects.specs.Record.{recordTest, recordAfter}
+use Rattle.objects.specs.Object.{placeNumber, headerCall, headerAfter}
 use Rattle.room.specs.declared.Room as room
 use Rattle.room.specs.declared.Tested.{Tested}
 use Rattle.room.specs.declared.Tested.the-variants as tested
-use Rattle.room.specs.declared.Place.{Place}
-use Rattle.room.specs.declared.Place.the-variants as place
+use Rattle.objects.specs.declared.Place.{Place}
+use Rattle.objects.specs.declared.Place.the-variants as place
 use Rattle.room.proofs.TestLaws.{test-passes, surfaces-long}
 use Rattle.actor.proofs.ActorLaws.{refused-keeps}
 use Rattle.blocks.specs.Call.{number, Outcome, refused, written, smapOutcome, planeOutcome, answerOf, targetAfter}

@@ -11,8 +11,8 @@ use mathlib.Core.List.{List}
 use lib.IntN.{ℤ}
 use lib.ListN.{length}
 use Rattle.room.specs.Test.{numberOf}
-use Rattle.room.specs.Record.{recordTest, recordAfter}
-use Rattle.room.specs.Object.{placeNumber, headerCall, headerAfter}
+use Rattle.objects.specs.Record.{recordTest, recordAfter}
+use Rattle.objects.specs.Object.{placeNumber, headerCall, headerAfter}
 use Rattle.actor.specs.Stamp.{stampNumber, stampFrame}
 use Rattle.costume.specs.Start.{startNumber, startBytes}
 use Rattle.limbs.specs.Tick.{tickNumber, tickBytes}

@@ -13,7 +13,7 @@ use Rattle.table.specs.Table.{offsetAt, offsetRight, offsetsRight, tableRight}
 use Rattle.table.specs.Body.{bodyEnd, bodyOf, stripAt, rowsAt, maskAt}
 use Rattle.table.specs.Test.{stripTest, leftmost, blockTest}
 use Rattle.table.specs.declared.Test.the-variants.{Passed, Refused}
-use Rattle.room.specs.Object.{objectBlock}
+use Rattle.objects.specs.Object.{objectBlock}
 use Rattle.image.specs.Image.{objectCount, objectId, hasId, firstOf, imageBlock, imageCount, homeX, homeY, imageWidth, imageHeight, stateBlock, drawable}
 use Rattle.image.specs.Fault.{planeTest, picturesTest, imageTest, imageFault}
 use Rattle.image.specs.Pixel.{imageStrip, imageColour, imageClear, imageBits}

@@ -16,7 +16,7 @@ use Rattle.block.specs.Tree.{tagged, findTag, nthTag}
 use Rattle.block.specs.declared.Found.{Found}
 use Rattle.block.specs.declared.Found.the-variants.{At, Missing}
 use Rattle.block.proofs.Laws.{and-false}
-use Rattle.room.specs.Object.{objectBlock}
+use Rattle.objects.specs.Object.{objectBlock}
 use Rattle.image.specs.Image.{objectCount, objectId, idAt, cdhdOf, imhdOf, hasId, headerHas, firstOf, imageBlock, homeX, homeY, imageWidth, imageHeight, imageCount}
 use Rattle.image.specs.Gathered.{startOf, endOf, rowFrom, rowWith, HasRow, Gathered, RowPut, Filled, Listed, RowOffered, Offered, Paired}
 use Rattle.image.proofs.WalkLaws.{walk-found, walk-none}

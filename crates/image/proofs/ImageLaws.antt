@@ -12,7 +12,7 @@ use Rattle.block.specs.Tree.{tagged, nthTag, findTag, isAt, Inside}
 use Rattle.block.specs.declared.Found.{Found}
 use Rattle.block.specs.declared.Found.the-variants.{At, Missing}
 use Rattle.block.proofs.Laws.{nth-in, and-left, and-right, and-false}
-use Rattle.room.specs.Object.{objectBlock}
+use Rattle.objects.specs.Object.{objectBlock}
 use Rattle.image.specs.Image.{objectCount, objectId, hasId, firstOf, imageBlock, tag-IM, stateIn, stateBlock, isObject, stateRight, imageCount, drawable}
 use Rattle.image.specs.Gathered.{startOf, endOf}
 use Rattle.image.proofs.WalkLaws.{walk-each}

@@ -10,7 +10,7 @@ use Rattle.block.specs.declared.Found.{Found}
 use Rattle.block.specs.declared.Found.the-variants.{At, Missing}
 use Rattle.block.specs.Tag.{tag-OBIM}
 use Rattle.block.specs.Tree.{tagged}
-use Rattle.room.specs.Object.{objectBlock}
+use Rattle.objects.specs.Object.{objectBlock}
 use Rattle.image.specs.Image.{objectCount, objectId, field, imhdOf, hasId, firstOf, imageBlock}
 
 -- an OBIM's payload; 0 and 0 where there is none

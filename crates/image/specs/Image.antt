@@ -10,7 +10,7 @@ use Rattle.block.specs.Tag.{tag-OBCD, tag-OBIM, tag-CDHD, tag-IMHD, tag-IM00}
 use Rattle.block.specs.Tree.{tagged, countTag, findTag, needTag, isAt}
 use Rattle.block.specs.declared.Found.{Found}
 use Rattle.block.specs.declared.Found.the-variants.{At, Missing}
-use Rattle.room.specs.Object.{objectBlock}
+use Rattle.objects.specs.Object.{objectBlock}
 
 -- objects: the OBCD blocks directly under ROOM
 abbrev pub objectCount : List ℕ → ℕ

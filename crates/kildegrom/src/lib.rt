@@ -15,9 +15,9 @@ ghost use Rattle.kildegrom.specs.Word.{hiddenWord, startedWord, drawnWor
 ghost use Rattle.point.specs.Call.{pointedAt};
 ghost use Rattle.play.specs.Calls.{callNumber, callSession, callPixels, callMasks};
 ghost use Rattle.room.specs.Test.{numberOf};
-ghost use Rattle.room.specs.Record.{recordTest, recordAfter};
-ghost use Rattle.room.specs.Object.{placeNumber, headerCall, headerAfter};
-ghost use Rattle.room.specs.Name.{namePlace, placeWord, nameNumber};
+ghost use Rattle.objects.specs.Record.{recordTest, recordAfter};
+ghost use Rattle.objects.specs.Object.{placeNumber, headerCall, headerAfter};
+ghost use Rattle.objects.specs.Name.{namePlace, placeWord, nameNumber};
 ghost use Rattle.load.specs.Load.{loadTest, pixelsAfter, masksAfter, sessionAfter};
 use actor::Answer;
 use blocks::Wrote;
@@ -33,7 +33,7 @@ pub extern "C" fn kg_record(room: &[u8], out: &mut [u8]) -> u32
     ensures { λ n. ⌜ n ≡ numberOf (recordTest (now (room .entry)) (now (out .entry))) ⌝ }
     ensures { λ _. ⌜ now (out .exit) ≡ recordAfter (recordTest (now (room .entry)) (now (out .entry))) (now (out .entry)) ⌝ }
 {
-    room::record::record(room, out)
+    objects::record::record(room, out)
 }
 
 // Loads a room: pixels, masks and an empty session.
@@ -153,7 +153,7 @@ pub extern "C" fn kg_header(room: &[u8], out: &mut [u8], object: u32) -> u32
     ensures { λ n. ⌜ n ≡ placeNumber (headerCall (now (room .entry)) (now (out .entry)) object) ⌝ }
     ensures { λ _. ⌜ now (out .exit) ≡ headerAfter (now (room .entry)) (headerCall (now (room .entry)) (now (out .entry)) object) (now (out .entry)) ⌝ }
 {
-    room::object::header_record(room, out, object)
+    objects::object::header_record(room, out, object)
 }
 
 // Where an object's name stands in the room: its start in the low 32 bits, its length in the high 32; 0 where there is none.
@@ -161,7 +161,7 @@ pub extern "C" fn kg_header(room: &[u8], out: &mut [u8], object: u32) -> u32
 pub extern "C" fn kg_name(room: &[u8], object: u32) -> u64
     ensures { λ r. ⌜ r ≡ placeWord (namePlace (now (room .entry)) object) ⌝ }
 {
-    room::name::name_word(room, object)
+    objects::name::name_word(room, object)
 }
 
 // The number of that call.
@@ -169,7 +169,7 @@ pub extern "C" fn kg_name(room: &[u8], object: u32) -> u64
 pub extern "C" fn kg_name_number(room: &[u8], object: u32) -> u32
     ensures { λ n. ⌜ n ≡ nameNumber (now (room .entry)) object ⌝ }
 {
-    room::name::name_number(room, object)
+    objects::name::name_number(room, object)
 }
 
 // Whether an actor's pixel at (x, y) is hidden at a clip level.

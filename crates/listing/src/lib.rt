@@ -6,12 +6,12 @@ use block::Found;
 use block::find_tag;
 use number::ahead_of;
 use number::behind_of;
-use room::Cdhd;
-use room::Place;
+use objects::Cdhd;
+use objects::Place;
+use objects::object::cdhd_in;
+use objects::object::read_cdhd;
 use room::Room;
 use room::Tested;
-use room::object::cdhd_in;
-use room::object::read_cdhd;
 use room::test::nothing_lent;
 use room::test::test_room;
 

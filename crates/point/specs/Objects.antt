@@ -5,7 +5,7 @@ use mathlib.Core.List.{List}
 use lib.ListN.{getD}
 use Rattle.block.specs.declared.Found.{Found}
 use Rattle.block.specs.declared.Found.the-variants.{At, Missing}
-use Rattle.room.specs.Object.{objectBlock}
+use Rattle.objects.specs.Object.{objectBlock}
 use Rattle.image.specs.Image.{objectCount, cdhdOf}
 use Rattle.climb.specs.Objects.{Objects}
 

@@ -1,4 +1,2 @@
 pub mod HeadLaws
 pub mod TestLaws
-pub mod ObjectLaws
-pub mod NameLaws

@@ -1,9 +1,6 @@
-// Rooms: what a room must hold, its whole test, its record, and its objects' headers and names (document 01, "Sizes", "Numbered
-// refusals", "Blocks").
+// Rooms: what a room must hold, and its whole test (document 01, "Sizes", "Numbered refusals", "Blocks"). The record and the objects'
+// headers and names are crate objects.
 pub mod head;
-pub mod name;
-pub mod object;
-pub mod record;
 pub mod test;
 
 // Where the needed blocks stand: the payloads of RMHD, RMIH and IM00, and the SMAP block with its header.
@@ -47,24 +44,4 @@ pub struct Lent {
     pub masks: usize,
     pub has_flags: bool,
     pub flags: usize,
-}
-
-// What an object's CDHD says. Place and sizes are in strips of 8 pixels; the walk point is in pixels.
-pub struct Cdhd {
-    pub id: usize,
-    pub x: usize,
-    pub y: usize,
-    pub width: usize,
-    pub height: usize,
-    pub flags: usize,
-    pub parent: usize,
-    pub walkx: i32,
-    pub walky: i32,
-    pub direction: usize,
-}
-
-// Where an object's CDHD payload stands, or the number of the refusal.
-pub enum Place {
-    At(usize),
-    Refused(u8),
 }

@@ -30,7 +30,7 @@ use native.Mathlib.Decide.{ℕ-discrete}
 use lib.Seq.{getD-take, getD-set-same, getD-set-other}
 use borrow.Author.Tests.{eq-eqb, ne-eqb, le-leb, lt-leb, leb-true, leb-false, eqb-true, eqb-false}
 use Rattle.block.proofs.Laws.{and-left, and-right, and-false}
-use Rattle.room.specs.Object.{objectBlock}
+use Rattle.objects.specs.Object.{objectBlock}
 use Rattle.room.specs.declared.Room.{Room}
 use Rattle.image.proofs.GatherLaws.{gathered-x, gathered-y, gathered-width, gathered-height}
 use Rattle.image.proofs.ImageLaws.{drawable-object, drawable-state}

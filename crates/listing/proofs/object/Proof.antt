@@ -1,6 +1,6 @@
-use Rattle.room.proofs.ObjectLaws.{cdhd-at}
-use Rattle.room.specs.declared.Cdhd.{Cdhd}
-use Rattle.room.specs.Object.{cdhdAt}
+use Rattle.objects.proofs.ObjectLaws.{cdhd-at}
+use Rattle.objects.specs.declared.Cdhd.{Cdhd}
+use Rattle.objects.specs.Object.{cdhdAt}
 use lib.ListN.{getD}
 use denote.Ref.{now}
 use native.Mathlib.Omega.{arith}

@@ -1,0 +1,78 @@
+-- Laws of names: the first NUL, and where a name lies.
+use mathlib.Core.Path.{_≡_, refl, subst⁻¹}
+use mathlib.Core.List.{List}
+use mathlib.Core.Bool.{Bool, true, false, cond}
+use Prim.Native.Nat.{ℕ, zero, suc, _+_, _-_, _≤_, _<_}
+use native.Mathlib.Omega.{arith}
+use lib.Dec.{eqb}
+use lib.ListN.{getD, length}
+use borrow.Author.Tests.{ne-eqb, eq-eqb}
+use Rattle.block.specs.Tag.{tag-OBNA}
+use Rattle.block.specs.Tree.{Inside, needTag}
+use Rattle.room.specs.Test.{roomTest, nothing}
+use Rattle.objects.specs.Object.{objectBlock}
+use Rattle.objects.specs.Name.{nulFrom, beforeNul, nameIn, nameAfter, namePlace}
+use Rattle.block.specs.declared.Found.{Found}
+use Rattle.block.specs.declared.Found.the-variants.{At, Missing}
+use Rattle.room.specs.declared.Tested.{Tested}
+use Rattle.room.specs.declared.Tested.the-variants.{Right, Refused}
+use Rattle.block.proofs.Laws.{Held, need-in}
+use Rattle.objects.proofs.ObjectLaws.{object-in}
+use Rattle.room.proofs.TestLaws.{test-passes}
+
+module _ (s : List ℕ) where
+  pub nul-end : (n p : ℕ) → n ≡ 0 → p ≡ nulFrom n s p
+  unfolding nulFrom
+  nul-end n p h = rw h
+
+  nul-suc : (n m p : ℕ) (b : Bool) → n ≡ suc m → eqb (getD s p 0) 0 ≡ b → cond b p (nulFrom m s (p + 1)) ≡ nulFrom n s p
+  unfolding nulFrom
+  nul-suc n m p true h g = rw (h, g)
+  nul-suc n m p false h g = rw (h, g)
+
+  pub nul-here : (z p : ℕ) → p < z → getD s p 0 ≡ 0 → p ≡ nulFrom (z - p) s p
+  nul-here z p l h = nul-suc (z - p) (z - (p + 1)) p true (omega arith) (eq-eqb _ _ h)
+
+  pub nul-on : (z p : ℕ) → p < z → (getD s p 0 ≡ 0 → ⊥) → nulFrom (z - (p + 1)) s (p + 1) ≡ nulFrom (z - p) s p
+  nul-on z p l h = nul-suc (z - p) (z - (p + 1)) p false (omega arith) (ne-eqb _ _ h)
+
+  -- it lies in the bytes that are looked at
+  pub nul-in : (n p : ℕ) → (p ≤ nulFrom n s p) × (nulFrom n s p ≤ p + n)
+  nul-in zero p = unfold nulFrom in omega arith
+  nul-in (suc n) p = go (eqb (getD s p 0) 0) refl (nul-in n (p + 1))
+    where
+      go : (b : Bool) → eqb (getD s p 0) 0 ≡ b → (p + 1 ≤ nulFrom n s (p + 1)) × (nulFrom n s (p + 1) ≤ p + 1 + n) → (p ≤ nulFrom (suc n) s p) × (nulFrom (suc n) s p ≤ p + suc n)
+      go true h i = rw (← nul-suc (suc n) n p true refl h) (omega arith)
+      go false h i = rw (← nul-suc (suc n) n p false refl h) (omega arith)
+
+  -- a part of the room
+  abbrev Part : Found → Type 0
+  Part (At a z) = (a ≤ z) × (z ≤ length s)
+  Part Missing = Unit {0}
+
+  part-nul : (a e : ℕ) (f : Found) → e ≤ length s → Held 0 a e f → Part (beforeNul s f)
+  unfolding beforeNul
+  part-nul a e (At p z) l i = omega (arith, nul-in (z - p) p)
+  part-nul a e Missing l i = tt
+
+  part-in : (f : Found) → Inside 8 (length s) f → Part (nameIn s f)
+  unfolding nameIn
+  part-in (At b z) i = part-nul (b + 8) z (needTag tag-OBNA 0 s (b + 8) z) (omega arith) (need-in tag-OBNA 0 s (b + 8) z)
+  part-in Missing i = tt
+
+  -- a name that is found lies in a room that is not over the size
+  abbrev Named : Found → Type 0
+  Named (At a z) = (a ≤ z) × (z ≤ length s) × (length s ≤ 1048576)
+  Named Missing = Unit {0}
+
+  named : (f : Found) → Part f → length s ≤ 1048576 → Named f
+  named (At a z) i small = (i .0, i .1, small)
+  named Missing i small = tt
+
+  named-after : (t : Tested) → t ≡ roomTest nothing s → (k : ℕ) → Named (nameAfter s k t)
+  named-after (Right r) e k = named (nameIn s (objectBlock s k)) (part-in (objectBlock s k) (object-in s k)) (test-passes nothing s r e .sound .small)
+  named-after (Refused n) e k = tt
+
+  pub name-at : (k a z : ℕ) → At a z ≡ namePlace s k → (a ≤ z) × (z ≤ length s) × (length s ≤ 1048576)
+  unfolding namePlace
+  name-at k a z h = subst⁻¹ Named h (named-after (roomTest nothing s) refl k)

@@ -1,0 +1,31 @@
+use Prim.Native.Nat.{_-_}
+use mathlib.Core.Path.{sym, _∙_}
+use borrow.Author.Needs.{needs}
+use Rattle.objects.proofs.object.cdhd_in.Statement.{statement}
+use Rattle.objects.proofs.object.cdhd_in.Tie as tie
+
+add-need-tag : tie.Need-add-need-tag
+add-need-tag c = search needs
+
+need-tag-requires : tie.Need-need-tag-requires
+need-tag-requires c κs = search needs
+
+enum-known-p : tie.Need-enum-known-p
+enum-known-p c = search needs
+
+enum-told : tie.Need-enum-told
+enum-told c = search needs
+
+returns : tie.Need-returns
+returns c =
+    let p = sym (c .before .p .given .1) ∙ c .before .before .before .need-tag .ensures in
+    rw (← p)
+
+returns-2 : tie.Need-returns-2
+returns-2 c =
+    let none = sym (c .enum-told .given .1) ∙ c .before .before .need-tag .ensures in
+    rw (← none)
+
+pub cdhd-in-spec : {M : Type 1} → statement M
+cdhd-in-spec =
+    tie.close (tie.spec add-need-tag need-tag-requires enum-known-p enum-told returns returns-2)
