@@ -23,7 +23,7 @@ use Rattle.scene.specs.declared.Step.{Step}
 use Rattle.replay.specs.Replay as replay
 use Rattle.session.specs.Plans as plans
 use Rattle.session.proofs.Caller.{make-called, back-called}
-use Rattle.repaint.specs.Decoded.{decoded}
+use Rattle.layers.specs.Decoded.{decoded}
 use Rattle.play.specs.Calls.{callNumber, callSession, callPixels, callMasks, stateOf, kept}
 use Rattle.play.specs.Bytes as play
 use Rattle.play.proofs.StepLaws.{called-refused}

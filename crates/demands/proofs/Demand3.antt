@@ -10,7 +10,7 @@ use Rattle.room.specs.declared.Tested.the-variants.{Right}
 use Rattle.scene.specs.Painting.{Room, Surfaces}
 use Rattle.scene.specs.Session as scene
 use Rattle.scene.specs.Session.{Call, make, takeBack, State, called, stateAfter, sceneOf}
-use Rattle.repaint.specs.Decoded.{decoded}
+use Rattle.layers.specs.Decoded.{decoded}
 use Rattle.play.specs.Calls.{stateOf}
 use Rattle.play.specs.Bytes.{Lent, testOf, numberOf, bytesAfter}
 use Rattle.play.proofs.Demand3 as play

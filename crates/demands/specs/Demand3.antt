@@ -17,7 +17,7 @@ use Rattle.scene.specs.Painting.{Room, Surfaces, painted}
 use Rattle.scene.specs.Steps.{Scene, bare, replay}
 use Rattle.scene.specs.Session.{Call, make, takeBack, listAnswer, stepList, sceneOf}
 use Rattle.stored.specs.Bytes.{sessionOf}
-use Rattle.repaint.specs.Decoded.{decoded}
+use Rattle.layers.specs.Decoded.{decoded}
 use Rattle.play.specs.Bytes.{Lent, numberOf, bytesAfter}
 
 -- the shown list and the positions that lent bytes hold, and the surfaces

@@ -23,7 +23,7 @@ use Rattle.replay.specs.Replay.{Plan, no, ok}
 use Rattle.session.specs.Plans.{planned, plannedBack, stepKept, backKept}
 use Rattle.stored.proofs.BytesLaws.{length-marks}
 use Rattle.session.proofs.Caller.{make-called, back-called}
-use Rattle.repaint.specs.Decoded.{decoded}
+use Rattle.layers.specs.Decoded.{decoded}
 use Rattle.play.specs.Calls.{stateOf, outcome, kept}
 use Rattle.play.specs.Bytes.{Lent, testOf, afterLoad, afterCall, numberOf, bytesAfter}
 use Rattle.play.proofs.LoadedLaws.{loaded-is}

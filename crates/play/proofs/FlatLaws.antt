@@ -7,7 +7,7 @@ use native.Mathlib.Omega.{arith}
 use lib.ListN.{length, getD, set, take, length-set}
 use lib.Seq.{getD-set-same, getD-set-other, take-suc}
 use Rattle.scene.specs.declared.Entry.{Entry}
-use Rattle.repaint.specs.Decoded.{entryAt, entriesOf}
+use Rattle.layers.specs.Decoded.{entryAt, entriesOf}
 
 abbrev pub none : Entry
 none = record { object = 0; state = 0; x = 0; y = 0 }

@@ -21,8 +21,8 @@ use Rattle.load.specs.Load.{background, mask, loadedPixels, loadedMasks, emptie
 use Rattle.scene.specs.Painting.{Room, Surfaces, pixelLayout, maskLayout, rebuiltBytes, newByte, freshByte, layered, painted, rebuilt}
 use Rattle.scene.specs.Session.{State, loaded}
 use Rattle.stored.specs.Bytes.{sessionOf, marksFrom, allPlaced}
-use Rattle.repaint.specs.Decoded.{decoded}
-use Rattle.repaint.proofs.LayerLaws.{rebuilt-upd}
+use Rattle.layers.specs.Decoded.{decoded}
+use Rattle.layers.proofs.LayerLaws.{rebuilt-upd}
 use Rattle.play.specs.Calls.{stateOf}
 
 -- a box that is the whole grid

@@ -24,8 +24,8 @@ use Rattle.stored.specs.declared.Shown.{Shown}
 use Rattle.session.proofs.Caller.{planned-known, act-called, step-list, step-touches}
 use Rattle.session.proofs.PlanLaws.{accepted-plan}
 use Rattle.replay.proofs.ReplayLaws.{right-shown}
-use Rattle.repaint.specs.Decoded.{decoded, entryAt, entriesOf}
-use Rattle.repaint.specs.Ready.{Paintable, Listed}
+use Rattle.layers.specs.Decoded.{decoded, entryAt, entriesOf}
+use Rattle.layers.specs.Ready.{Paintable, Listed}
 use Rattle.verdict.specs.Size.{sizeOf}
 use Rattle.play.specs.Calls.{outcome, kept}
 use Rattle.play.proofs.StepLaws.{called-refused, called-made, plan-number, plan-ok, plan-no, rebuilt-by, Fine, applied-fine, all-fine}

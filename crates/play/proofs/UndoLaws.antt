@@ -23,7 +23,7 @@ use Rattle.stored.specs.declared.Shown.{Shown}
 use Rattle.session.proofs.Caller.{back-known, take-back-called, back-list, back-touches}
 use Rattle.session.proofs.PlanLaws.{plan-and}
 use Rattle.replay.proofs.ReplayLaws.{right-shown, replays-older}
-use Rattle.repaint.specs.Decoded.{decoded, entriesOf}
+use Rattle.layers.specs.Decoded.{decoded, entriesOf}
 use Rattle.verdict.specs.Size.{sizeOf}
 use Rattle.play.specs.Calls.{outcome, kept}
 use Rattle.play.proofs.StepLaws.{plan-number, plan-ok, plan-no, rebuilt-by, Fine, all-fine}

@@ -10,7 +10,7 @@ use Rattle.scene.specs.Session.{Call, make, takeBack, State, Outcome, called}
 use Rattle.scene.specs.declared.Step.{Step}
 use Rattle.stored.specs.Bytes.{sessionOf}
 use Rattle.session.specs.Plans.{planned, plannedBack, stepKept, backKept}
-use Rattle.repaint.specs.Decoded.{decoded}
+use Rattle.layers.specs.Decoded.{decoded}
 
 -- the session that the bytes hold, and the surfaces lent with it
 abbrev pub stateOf : scene.Room → (session pixels masks : List ℕ) → State

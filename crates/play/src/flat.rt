@@ -2,7 +2,7 @@
 ghost use mathlib.Core.Path.{_≡_};
 ghost use Prim.Native.Nat.{_*_, _≤_};
 ghost use lib.ListN.{length};
-ghost use Rattle.repaint.specs.Decoded.{entriesOf};
+ghost use Rattle.layers.specs.Decoded.{entriesOf};
 ghost use Rattle.stored.specs.Bytes.{entries};
 use stored::Shown;
 

@@ -4,7 +4,7 @@ ghost use Prim.Native.Nat.{_*_, _≤_};
 ghost use lib.ListN.{length};
 ghost use Rattle.room.specs.Test.{strips};
 ghost use Rattle.image.specs.Image.{objectCount};
-ghost use Rattle.repaint.specs.Ready.{Ready};
+ghost use Rattle.layers.specs.Ready.{Ready};
 ghost use Rattle.scene.specs.Session.{takeBack};
 ghost use Rattle.play.specs.Calls.{outcome, kept};
 use crate::flat::flatten;

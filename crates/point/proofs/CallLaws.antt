@@ -22,7 +22,7 @@ use Rattle.stored.specs.declared.Shown.{Shown}
 use Rattle.replay.specs.declared.Size.{Size}
 use Rattle.session.proofs.Caller.{settled-known}
 use Rattle.replay.proofs.JudgedLaws.{plan-means}
-use Rattle.repaint.specs.Decoded.{decoded}
+use Rattle.layers.specs.Decoded.{decoded}
 use Rattle.verdict.specs.Size.{sizeOf}
 use Rattle.point.specs.Objects.{objectsOf}
 use Rattle.point.specs.Point.{objectAt}

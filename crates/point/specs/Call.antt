@@ -12,7 +12,7 @@ use Rattle.room.specs.declared.Tested.the-variants as tested
 use Rattle.scene.specs.Painting as scene
 use Rattle.scene.specs.Session.{rightFor, sceneOf}
 use Rattle.stored.specs.Bytes.{sessionOf}
-use Rattle.repaint.specs.Decoded.{decoded}
+use Rattle.layers.specs.Decoded.{decoded}
 use Rattle.point.specs.Objects.{objectsOf}
 use Rattle.point.specs.Point.{objectAt}
 use Rattle.point.specs.declared.Pointed.{Pointed}

@@ -3,7 +3,7 @@ ghost use mathlib.Core.Path.{_≡_};
 ghost use Prim.Native.Nat.{_≤_};
 ghost use lib.ListN.{length, getD};
 ghost use Rattle.image.specs.Image.{objectCount};
-ghost use Rattle.repaint.specs.Ready.{Ready};
+ghost use Rattle.layers.specs.Ready.{Ready};
 ghost use Rattle.scene.specs.Painting as scene;
 ghost use Rattle.stored.specs.Bytes.{stepsOf, entries};
 ghost use Rattle.replay.specs.Replay.{sceneAfter};

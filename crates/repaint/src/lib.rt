@@ -1,10 +1,8 @@
 // Strips of lent surfaces rebuilt over their full height from the room's bytes and a shown list (document 01, "Sessions", "Painting
-// afresh"). The room passes its test, and each entry of the list could be drawn (specs/Ready.antt). A shown list is lent as numbers, four
-// for each entry: object, state, x, y.
-pub mod entry;
+// afresh"). The room passes its test, and each entry of the list could be drawn (crate layers, specs/Ready.antt). A shown list is lent as
+// numbers, four for each entry: object, state, x, y.
 pub mod masks;
 pub mod pixels;
-pub mod read;
 
 ghost use mathlib.Core.Path.{_≡_};
 ghost use mathlib.Core.Bool.{not};
@@ -13,22 +11,11 @@ ghost use lib.Dec.{eqb};
 ghost use lib.ListN.{length, getD};
 ghost use Rattle.room.specs.Test.{strips};
 ghost use Rattle.scene.specs.Painting.{pixelLayout, maskLayout, rebuiltBytes};
-ghost use Rattle.repaint.specs.Decoded.{decoded, entriesOf};
-ghost use Rattle.repaint.specs.Ready.{Ready, Listed};
+ghost use Rattle.layers.specs.Decoded.{decoded, entriesOf};
+ghost use Rattle.layers.specs.Ready.{Ready, Listed};
 use crate::masks::rebuild_masks;
 use crate::pixels::rebuild_pixels;
 use room::Room;
-
-// Where a picture is read from, a room's background or an object's image: the payload of the block that holds it, its SMAP block with
-// its header, and its sizes.
-pub struct Source {
-    pub payload: usize,
-    pub payload_end: usize,
-    pub smap: usize,
-    pub smap_end: usize,
-    pub strips: usize,
-    pub height: usize,
-}
 
 // Rebuilds the strips of both surfaces whose byte in `touched` is not 0; every other byte stays.
 pub fn rebuild(

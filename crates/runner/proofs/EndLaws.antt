@@ -7,7 +7,7 @@ use Rattle.room.specs.Test as test
 use Rattle.room.specs.declared.Room as room
 use Rattle.room.specs.declared.Tested.{Tested}
 use Rattle.room.specs.declared.Tested.the-variants.{Right, Refused}
-use Rattle.repaint.specs.Decoded.{decoded}
+use Rattle.layers.specs.Decoded.{decoded}
 use Rattle.play.specs.Bytes.{Lent, testOf, afterLoad, numberOf, bytesAfter}
 use Rattle.runner.specs.Coded.{callAt, callsOf, callCount}
 use Rattle.runner.specs.Run.{played, playedNumber, putFirst, numberAt, bytesRun, numbersRun}

@@ -10,7 +10,7 @@ use Rattle.scene.specs.Painting.{Room, Surfaces, painted}
 use Rattle.scene.specs.Steps.{Scene, bare, replay}
 use Rattle.scene.specs.Session.{Call, takeBack, State, loaded, stateAfter, befores, sceneOf, listAnswer, stepList}
 use Rattle.scene.proofs.Demand3 as scene
-use Rattle.repaint.specs.Decoded.{decoded}
+use Rattle.layers.specs.Decoded.{decoded}
 use Rattle.play.specs.Bytes.{Lent, testOf, bytesAfter}
 use Rattle.play.specs.Calls.{stateOf}
 use Rattle.play.proofs.Demand3 as play

@@ -28,7 +28,7 @@ use Rattle.scene.specs.Steps.{Scene, some, allowed, entryOf, refusal}
 use Rattle.scene.specs.Session.{Call, make, takeBack, State, rightFor, sceneOf, unmade, tried, called, refused}
 use Rattle.scene.specs.declared.Step.{Step}
 use Rattle.scene.specs.declared.Step.the-variants.{Draw, Hide}
-use Rattle.repaint.specs.Decoded.{decoded}
+use Rattle.layers.specs.Decoded.{decoded}
 use Rattle.play.specs.Bytes.{Lent, testOf, afterLoad, afterCall, numberOf, bytesAfter}
 use Rattle.play.specs.Calls.{stateOf, callNumber}
 use Rattle.verdict.proofs.VerdictLaws.{LowTest, low-then, low-leftmost, low-block, low-plane, low-fault}

@@ -4,7 +4,7 @@ ghost use mathlib.Core.Path.{_≡_};
 ghost use Rattle.room.specs.Test.{numberOf};
 ghost use Rattle.room.specs.declared.Room as rooms;
 ghost use Rattle.room.specs.declared.Tested.the-variants.{Right};
-ghost use Rattle.repaint.specs.Decoded.{decoded};
+ghost use Rattle.layers.specs.Decoded.{decoded};
 ghost use Rattle.play.specs.Bytes.{testOf};
 ghost use Rattle.runner.specs.Coded.{callCount};
 ghost use Rattle.runner.specs.Run.{lentOf, bytesRun, numbersRun};

@@ -41,8 +41,8 @@ use Rattle.scene.specs.declared.Step.the-variants as step
 use Rattle.stored.specs.Bytes.{down, stepAt, readable}
 use Rattle.replay.specs.Tables.{cellOf, verdictOf, draws, names, sized, Knows}
 use Rattle.replay.proofs.TablesLaws.{cell-none, cell-row, cell-past, verdict-none, verdict-past, verdict-zero, verdict-over, verdict-cell}
-use Rattle.repaint.specs.Decoded.{decoded}
-use Rattle.repaint.specs.Ready.{Ready}
+use Rattle.layers.specs.Decoded.{decoded}
+use Rattle.layers.specs.Ready.{Ready}
 use Rattle.verdict.specs.Size.{sizeOf}
 use Rattle.verdict.specs.Verdict.{Right, Within, cellAt, Judged}
 

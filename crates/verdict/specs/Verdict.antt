@@ -12,7 +12,7 @@ use Rattle.image.specs.Image.{drawable}
 use Rattle.image.specs.Fault.{imageFault}
 use Rattle.scene.specs.declared.Step.{Step}
 use Rattle.replay.specs.Tables.{names, sized}
-use Rattle.repaint.specs.Decoded.{decoded}
+use Rattle.layers.specs.Decoded.{decoded}
 
 -- v is the verdict of object o in state st: 11 where it can't be drawn, else the number of its image's fault, which is asked only of an
 -- image whose size is allowed, for 12 goes first

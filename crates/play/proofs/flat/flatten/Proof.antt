@@ -1,5 +1,5 @@
 use Rattle.play.proofs.FlatLaws.{flat-more}
-use Rattle.repaint.specs.Decoded.{entriesOf}
+use Rattle.layers.specs.Decoded.{entriesOf}
 use Rattle.stored.proofs.Lists.{length-of-map}
 use lib.ListN.{length, take, length-set}
 use borrow.Author.Needs.{needs}

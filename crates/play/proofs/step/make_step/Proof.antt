@@ -1,6 +1,6 @@
 use Rattle.stored.specs.Bytes.{entries, putShown}
 use Rattle.play.proofs.MakeLaws.{before-zero, listed, make-number, refused-session, refused-pixels, refused-masks, made-session, made-fine, made-pixels, made-masks}
-use Rattle.repaint.specs.Decoded.{decoded}
+use Rattle.layers.specs.Decoded.{decoded}
 use Rattle.session.proofs.Caller.{step-ready}
 use Rattle.replay.specs.Tables.{tabled}
 use Rattle.room.specs.Test.{strips}

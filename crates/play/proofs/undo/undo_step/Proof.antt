@@ -1,6 +1,6 @@
 use Rattle.play.proofs.UndoLaws.{back-number, kept-session, kept-pixels, kept-masks, undone-session, undone-fine, undone-pixels, undone-masks}
 use Rattle.play.proofs.MakeLaws.{listed}
-use Rattle.repaint.specs.Decoded.{decoded}
+use Rattle.layers.specs.Decoded.{decoded}
 use Rattle.session.proofs.Caller.{back-ready}
 use Rattle.stored.specs.Bytes.{entries, putShown}
 use Rattle.room.specs.Test.{strips}

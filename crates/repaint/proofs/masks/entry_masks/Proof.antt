@@ -1,7 +1,7 @@
 -- `repaint::masks::entry_masks` meets its contract. Assumes nothing.
-use Rattle.repaint.proofs.PaintLaws.{over-masks}
-use Rattle.repaint.proofs.LayerLaws.{over-off}
-use Rattle.repaint.proofs.EntryLaws.{entry-fits, covers-in, source-readable, source-plane, same-opaque}
+use Rattle.layers.proofs.PaintLaws.{over-masks}
+use Rattle.layers.proofs.LayerLaws.{over-off}
+use Rattle.layers.proofs.EntryLaws.{entry-fits, covers-in, source-readable, source-plane, same-opaque}
 use Rattle.scene.proofs.Strips.{masks-local}
 use mathlib.Core.Path.{sym, _∙_}
 use native.Mathlib.Omega.{arith}

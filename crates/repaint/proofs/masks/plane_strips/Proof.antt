@@ -1,5 +1,5 @@
 -- `repaint::masks::plane_strips` meets its contract. Assumes nothing.
-use Rattle.repaint.proofs.PaintLaws.{fresh-masks}
+use Rattle.layers.proofs.PaintLaws.{fresh-masks}
 use Rattle.image.proofs.FaultLaws.{room-plane}
 use Rattle.load.proofs.LoadLaws.{background-passes, plane-passes}
 use mathlib.Core.Path.{refl, sym, _∙_}

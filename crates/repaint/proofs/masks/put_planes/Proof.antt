@@ -1,7 +1,7 @@
 -- `repaint::masks::put_planes` meets its contract. Assumes nothing.
-use Rattle.repaint.proofs.PaintLaws.{planes-none, planes-more}
-use Rattle.repaint.specs.Source.{rowsByte}
-use Rattle.repaint.specs.Layer.{stripByte}
+use Rattle.layers.proofs.PaintLaws.{planes-none, planes-more}
+use Rattle.layers.specs.Source.{rowsByte}
+use Rattle.layers.specs.Layer.{stripByte}
 use Rattle.room.specs.Test.{strips}
 use Rattle.grid.specs.Grid.{upd}
 use lib.ListN.{length}

@@ -1,7 +1,7 @@
 -- `repaint::masks::rebuild_masks` meets its contract. Assumes nothing.
-use Rattle.repaint.proofs.PaintLaws.{touched-masks}
-use Rattle.repaint.proofs.LayerLaws.{touch-none, touch-on, touch-off}
-use Rattle.repaint.specs.Decoded.{decoded, entriesOf}
+use Rattle.layers.proofs.PaintLaws.{touched-masks}
+use Rattle.layers.proofs.LayerLaws.{touch-none, touch-on, touch-off}
+use Rattle.layers.specs.Decoded.{decoded, entriesOf}
 use Rattle.scene.specs.Painting.{maskLayout, rebuiltBytes}
 use lib.ListN.{length, getD}
 use lib.Dec.{eqb, ltb}

@@ -1,5 +1,5 @@
 -- `repaint::masks::strip_masks` meets its contract. Assumes nothing.
-use Rattle.repaint.proofs.LayerLaws.{fresh-over}
+use Rattle.layers.proofs.LayerLaws.{fresh-over}
 use borrow.Author.Needs.{needs}
 use Rattle.repaint.proofs.masks.strip_masks.Statement.{statement}
 use Rattle.repaint.proofs.masks.strip_masks.Tie as tie

@@ -1,8 +1,8 @@
 -- `repaint::pixels::entries_pixels` meets its contract. Assumes nothing.
-use Rattle.repaint.proofs.LayerLaws.{entries-none, entries-more}
-use Rattle.repaint.specs.Ready.{Paintable}
-use Rattle.repaint.specs.Layer.{overByte}
-use Rattle.repaint.specs.Decoded.{decoded, entriesOf}
+use Rattle.layers.proofs.LayerLaws.{entries-none, entries-more}
+use Rattle.layers.specs.Ready.{Paintable}
+use Rattle.layers.specs.Layer.{overByte}
+use Rattle.layers.specs.Decoded.{decoded, entriesOf}
 use Rattle.scene.specs.declared.Entry.{Entry}
 use Rattle.scene.specs.Painting.{pixelLayout}
 use Rattle.grid.specs.Grid.{upd}

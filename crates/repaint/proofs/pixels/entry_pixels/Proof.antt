@@ -1,7 +1,7 @@
 -- `repaint::pixels::entry_pixels` meets its contract. Assumes nothing.
-use Rattle.repaint.proofs.PaintLaws.{over-pixels}
-use Rattle.repaint.proofs.LayerLaws.{over-off}
-use Rattle.repaint.proofs.EntryLaws.{entry-fits, covers-in, source-readable}
+use Rattle.layers.proofs.PaintLaws.{over-pixels}
+use Rattle.layers.proofs.LayerLaws.{over-off}
+use Rattle.layers.proofs.EntryLaws.{entry-fits, covers-in, source-readable}
 use Rattle.scene.proofs.Strips.{pixels-local}
 use mathlib.Core.Path.{sym, _∙_}
 use native.Mathlib.Omega.{arith}

@@ -1,5 +1,5 @@
 -- `repaint::pixels::put_strip` meets its contract. Assumes nothing.
-use Rattle.repaint.proofs.SourceLaws.{strip-table, strip-read, read-over}
+use Rattle.layers.proofs.SourceLaws.{strip-table, strip-read, read-over}
 use Rattle.paint.proofs.BoxLaws.{box-same}
 use native.Mathlib.Omega.{arith}
 use borrow.Author.Needs.{needs}

@@ -1,7 +1,7 @@
 -- `repaint::pixels::rebuild_pixels` meets its contract. Assumes nothing.
-use Rattle.repaint.proofs.PaintLaws.{touched-pixels}
-use Rattle.repaint.proofs.LayerLaws.{touch-none, touch-on, touch-off}
-use Rattle.repaint.specs.Decoded.{decoded, entriesOf}
+use Rattle.layers.proofs.PaintLaws.{touched-pixels}
+use Rattle.layers.proofs.LayerLaws.{touch-none, touch-on, touch-off}
+use Rattle.layers.specs.Decoded.{decoded, entriesOf}
 use Rattle.scene.specs.Painting.{pixelLayout, rebuiltBytes}
 use lib.ListN.{length, getD}
 use lib.Dec.{eqb, ltb}

@@ -1,6 +1,6 @@
 -- `repaint::pixels::strip_pixels` meets its contract. Assumes nothing.
-use Rattle.repaint.proofs.PaintLaws.{width-is, fresh-pixels}
-use Rattle.repaint.proofs.LayerLaws.{fresh-over}
+use Rattle.layers.proofs.PaintLaws.{width-is, fresh-pixels}
+use Rattle.layers.proofs.LayerLaws.{fresh-over}
 use Rattle.paint.proofs.BlockLaws.{block-table, block-strip}
 use Rattle.load.proofs.LoadLaws.{background-passes}
 use native.Mathlib.Omega.{arith}

@@ -19,8 +19,8 @@ use Rattle.load.specs.Load.{foundMask}
 use Rattle.image.specs.Image.{imageHeight, stateBlock}
 use Rattle.image.specs.Fault.{planeIn, planeTest}
 use Rattle.image.specs.Pixel.{imageStrips, clearCode}
-use Rattle.repaint.specs.declared.Source.{Source}
-use Rattle.repaint.specs.Layer.{stripByte}
+use Rattle.layers.specs.declared.Source.{Source}
+use Rattle.layers.specs.Layer.{stripByte}
 
 -- its SMAP lies in the room and passes its test
 pub record Readable (s : List ℕ) (m : Source) : Type 0 where

@@ -1,9 +1,9 @@
--- `repaint::entry::entry_at` meets its contract. Assumes nothing.
-use Rattle.repaint.specs.Decoded.{entryAt}
+-- `layers::entry::entry_at` meets its contract. Assumes nothing.
+use Rattle.layers.specs.Decoded.{entryAt}
 use mathlib.Core.Path.{refl}
 use borrow.Author.Needs.{needs}
-use Rattle.repaint.proofs.entry.entry_at.Statement.{statement}
-use Rattle.repaint.proofs.entry.entry_at.Tie as tie
+use Rattle.layers.proofs.entry.entry_at.Statement.{statement}
+use Rattle.layers.proofs.entry.entry_at.Tie as tie
 
 mul-at : tie.Need-mul-at
 mul-at c = search needs

@@ -11,7 +11,7 @@ use lib.Dec.{eqb}
 use lib.ListN.{getD}
 use Rattle.block.proofs.Laws.{and-left, and-right}
 use Rattle.scene.specs.Painting.{every}
-use Rattle.repaint.specs.Layer.{noneClear}
+use Rattle.layers.specs.Layer.{noneClear}
 
 module _ (f : ℕ → Bool) where
   pub every-at : (n : ℕ) → every n f ≡ true → (i : ℕ) → i < n → f i ≡ true

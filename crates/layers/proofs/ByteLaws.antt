@@ -15,7 +15,7 @@ use Rattle.grid.specs.Grid.{pick, upd, within, boxed}
 use Rattle.grid.proofs.Upd.{upd-ext, upd-id}
 use Rattle.grid.proofs.Box.{within-yes, within-lo, within-hi, within-cases, boxed-in, boxed-off, boxed-out}
 use Rattle.scene.specs.Painting.{eachFrom}
-use Rattle.repaint.specs.Layer.{stripByte}
+use Rattle.layers.specs.Layer.{stripByte}
 
 -- crate scene's and crate grid's words for one thing
 each-upd-from : (n : ℕ) (f : ℕ → ℕ → ℕ) (l : List ℕ) → eachFrom n f l ≡ upd (λ i. f (n + i)) l

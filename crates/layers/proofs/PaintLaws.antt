@@ -21,14 +21,14 @@ use Rattle.image.specs.Pixel.{imageClear, imageColour}
 use Rattle.scene.specs.Painting.{covers, reaches, opaque, overPixel, overMask, pixelLayout, maskLayout, rebuiltBytes}
 use Rattle.scene.specs.declared.Entry.{Entry}
 use Rattle.scene.proofs.Loops.{rebuilt-last, pixel-strips, mask-strips}
-use Rattle.repaint.specs.declared.Source.{Source}
-use Rattle.repaint.specs.Decoded.{decoded}
-use Rattle.repaint.specs.Layer.{stripByte, overByte}
-use Rattle.repaint.specs.Source.{stripIn, maskIn, pictureOver, rowsByte, planesByte, Stands}
-use Rattle.repaint.specs.Ready.{Paintable}
-use Rattle.repaint.proofs.ByteLaws.{pixel-box, plane-box, strip-past}
-use Rattle.repaint.proofs.EntryLaws.{same-pixel, same-bits}
-use Rattle.repaint.proofs.LayerLaws.{over-one, fresh-none}
+use Rattle.layers.specs.declared.Source.{Source}
+use Rattle.layers.specs.Decoded.{decoded}
+use Rattle.layers.specs.Layer.{stripByte, overByte}
+use Rattle.layers.specs.Source.{stripIn, maskIn, pictureOver, rowsByte, planesByte, Stands}
+use Rattle.layers.specs.Ready.{Paintable}
+use Rattle.layers.proofs.ByteLaws.{pixel-box, plane-box, strip-past}
+use Rattle.layers.proofs.EntryLaws.{same-pixel, same-bits}
+use Rattle.layers.proofs.LayerLaws.{over-one, fresh-none}
 
 -- ---- strip j of a picture's planes over strip k, plane after plane
 module _ (s : List ℕ) (m : Source) (j n h k y : ℕ) (replace : Bool) (l : List ℕ) where

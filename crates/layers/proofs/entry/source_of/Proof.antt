@@ -1,13 +1,13 @@
--- `repaint::entry::source_of` meets its contract. Assumes nothing.
-use Rattle.repaint.proofs.SourceLaws.{state-there, smap-there}
+-- `layers::entry::source_of` meets its contract. Assumes nothing.
+use Rattle.layers.proofs.SourceLaws.{state-there, smap-there}
 use Rattle.image.proofs.GatherLaws.{gathered-width, gathered-height}
 use Rattle.image.proofs.ImageLaws.{state-at}
 use native.Mathlib.Omega.{arith}
 use Prim.Native.Nat.{ℕ, _+_, _*_, _/_}
 use mathlib.Core.Path.{refl, sym, ap, _∙_}
 use borrow.Author.Needs.{needs}
-use Rattle.repaint.proofs.entry.source_of.Statement.{statement}
-use Rattle.repaint.proofs.entry.source_of.Tie as tie
+use Rattle.layers.proofs.entry.source_of.Statement.{statement}
+use Rattle.layers.proofs.entry.source_of.Tie as tie
 
 mul-strips : tie.Need-mul-strips
 mul-strips c = search needs

@@ -1,12 +1,12 @@
--- `repaint::read::none_clear` meets its contract. Assumes nothing.
-use Rattle.repaint.proofs.EveryLaws.{clear-none, clear-found, clear-more}
-use Rattle.repaint.specs.Layer.{noneClear}
+-- `layers::read::none_clear` meets its contract. Assumes nothing.
+use Rattle.layers.proofs.EveryLaws.{clear-none, clear-found, clear-more}
+use Rattle.layers.specs.Layer.{noneClear}
 use native.Mathlib.Omega.{arith}
 use Prim.Native.Nat.{_-_, _≤_}
 use mathlib.Core.Bool.{true}
 use mathlib.Core.Path.{_≡_, sym}
-use Rattle.repaint.proofs.read.none_clear.Statement.{statement}
-use Rattle.repaint.proofs.read.none_clear.Tie as tie
+use Rattle.layers.proofs.read.none_clear.Statement.{statement}
+use Rattle.layers.proofs.read.none_clear.Tie as tie
 
 abbrev Inv-loop : tie.InvT-loop
 Inv-loop values n clear i₀ i = (i ≤ n) × (noneClear clear values i ≡ true)

@@ -1,10 +1,10 @@
--- `repaint::entry::covers_strip` meets its contract. Assumes nothing.
-use Rattle.repaint.proofs.SourceLaws.{covers-by}
+-- `layers::entry::covers_strip` meets its contract. Assumes nothing.
+use Rattle.layers.proofs.SourceLaws.{covers-by}
 use native.Mathlib.Omega.{arith}
 use Prim.Native.Nat.{_+_, _*_}
 use borrow.Author.Needs.{needs}
-use Rattle.repaint.proofs.entry.covers_strip.Statement.{statement}
-use Rattle.repaint.proofs.entry.covers_strip.Tie as tie
+use Rattle.layers.proofs.entry.covers_strip.Statement.{statement}
+use Rattle.layers.proofs.entry.covers_strip.Tie as tie
 
 mul-strips : tie.Need-mul-strips
 mul-strips c = search needs

@@ -14,9 +14,9 @@ use Rattle.scene.specs.Painting.{Room, Layout, covers, layered, freshByte, newB
 use Rattle.scene.specs.declared.Entry.{Entry}
 use Rattle.scene.proofs.Strips.{Local}
 use Rattle.scene.proofs.Loops.{layered-more, rebuilt-none, rebuilt-alike, rebuilt-next}
-use Rattle.repaint.specs.Decoded.{entryAt, entriesOf}
-use Rattle.repaint.specs.Layer.{stripByte, overByte}
-use Rattle.repaint.proofs.ByteLaws.{each-upd, strip-ext, strip-then, strip-same}
+use Rattle.layers.specs.Decoded.{entryAt, entriesOf}
+use Rattle.layers.specs.Layer.{stripByte, overByte}
+use Rattle.layers.proofs.ByteLaws.{each-upd, strip-ext, strip-then, strip-same}
 
 pub rebuilt-upd : (lay : Layout) (es : List Entry) (picks : ℕ → Bool) (l : List ℕ) → rebuiltBytes lay es picks l ≡ upd (newByte lay es picks) l
 unfolding rebuiltBytes

@@ -28,12 +28,12 @@ use Rattle.image.proofs.PixelLaws.{image-strip-at}
 use Rattle.scene.specs.Painting.{every, opaque, covers}
 use Rattle.scene.specs.Steps.{allowed}
 use Rattle.scene.specs.declared.Entry.{Entry}
-use Rattle.repaint.specs.declared.Source.{Source}
-use Rattle.repaint.specs.Decoded.{decoded}
-use Rattle.repaint.specs.Layer.{noneClear}
-use Rattle.repaint.specs.Source.{Readable, PlanePasses, stripIn, maskIn, pictureOver, Stands}
-use Rattle.repaint.specs.Ready.{Paintable}
-use Rattle.repaint.proofs.EveryLaws.{every-rows}
+use Rattle.layers.specs.declared.Source.{Source}
+use Rattle.layers.specs.Decoded.{decoded}
+use Rattle.layers.specs.Layer.{noneClear}
+use Rattle.layers.specs.Source.{Readable, PlanePasses, stripIn, maskIn, pictureOver, Stands}
+use Rattle.layers.specs.Ready.{Paintable}
+use Rattle.layers.proofs.EveryLaws.{every-rows}
 
 -- an image without refusal has an SMAP
 smap-of : (planes n h : ℕ) (s : List ℕ) (f : Found) → stateTest planes n h s f ≡ Passed → isAt (smapOf s f) ≡ true

@@ -14,7 +14,7 @@ use Rattle.image.specs.Fault.{imageFault}
 use Rattle.image.specs.Gathered.{Gathered}
 use Rattle.scene.specs.Steps.{allowed}
 use Rattle.scene.specs.declared.Entry.{Entry}
-use Rattle.repaint.specs.Decoded.{decoded, entryAt}
+use Rattle.layers.specs.Decoded.{decoded, entryAt}
 
 pub record Ready (s : List ℕ) (r : Room) (table : List ℕ) : Type 0 where
   pub sound : Sound s r

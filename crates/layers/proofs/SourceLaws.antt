@@ -32,11 +32,11 @@ use Rattle.image.proofs.GatherLaws.{gathered-width}
 use Rattle.image.proofs.FaultLaws.{image-found-passes}
 use Rattle.scene.specs.Painting.{covers}
 use Rattle.scene.specs.declared.Entry.{Entry}
-use Rattle.repaint.specs.declared.Source.{Source}
-use Rattle.repaint.specs.Decoded.{decoded}
-use Rattle.repaint.specs.Layer.{noneClear}
-use Rattle.repaint.specs.Source.{Readable, PlanePasses, stripIn, maskIn, pictureOver}
-use Rattle.repaint.proofs.EveryLaws.{every-ext}
+use Rattle.layers.specs.declared.Source.{Source}
+use Rattle.layers.specs.Decoded.{decoded}
+use Rattle.layers.specs.Layer.{noneClear}
+use Rattle.layers.specs.Source.{Readable, PlanePasses, stripIn, maskIn, pictureOver}
+use Rattle.layers.proofs.EveryLaws.{every-ext}
 
 clear-is : (p : Picture) (clear : Bool) → answer.Drawn clear ≡ answerOf p → clear ≡ clearCode p
 clear-is (refusal n) clear h = absurd (let z : _≡_ {A = ℕ} 0 1 = cc in omega arith)

@@ -1,10 +1,10 @@
--- `repaint::read::strip_opaque` meets its contract. Assumes nothing.
-use Rattle.repaint.proofs.SourceLaws.{strip-table, strip-read, read-none-clear}
+-- `layers::read::strip_opaque` meets its contract. Assumes nothing.
+use Rattle.layers.proofs.SourceLaws.{strip-table, strip-read, read-none-clear}
 use native.Mathlib.Omega.{arith}
 use mathlib.Core.Path.{_∙_}
 use borrow.Author.Needs.{needs}
-use Rattle.repaint.proofs.read.strip_opaque.Statement.{statement}
-use Rattle.repaint.proofs.read.strip_opaque.Tie as tie
+use Rattle.layers.proofs.read.strip_opaque.Statement.{statement}
+use Rattle.layers.proofs.read.strip_opaque.Tie as tie
 
 slice-aggregate-read-strip : tie.Need-slice-aggregate-read-strip
 slice-aggregate-read-strip c = search needs

@@ -1,11 +1,11 @@
--- `repaint::read::plane_rows` meets its contract. Assumes nothing.
-use Rattle.repaint.proofs.SourceLaws.{plane-table, rows-read, rows-zero}
+-- `layers::read::plane_rows` meets its contract. Assumes nothing.
+use Rattle.layers.proofs.SourceLaws.{plane-table, rows-read, rows-zero}
 use Rattle.block.proofs.Laws.{nth-at}
 use native.Mathlib.Omega.{arith}
 use mathlib.Core.Path.{sym, _∙_}
 use borrow.Author.Needs.{needs}
-use Rattle.repaint.proofs.read.plane_rows.Statement.{statement}
-use Rattle.repaint.proofs.read.plane_rows.Tie as tie
+use Rattle.layers.proofs.read.plane_rows.Statement.{statement}
+use Rattle.layers.proofs.read.plane_rows.Tie as tie
 
 add-find-tag : tie.Need-add-find-tag
 add-find-tag c = search needs
