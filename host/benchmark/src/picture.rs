@@ -30,7 +30,7 @@ impl Picture {
 
     fn pixel(self, x: usize, y: usize) -> u8 {
         let colour = match self {
-            Picture::Gradient => x / 6 + y / 4 + usize::from(noise(x, y) % 8 == 0),
+            Picture::Gradient => x / 6 + y / 4 + usize::from(noise(x, y).is_multiple_of(8)),
             Picture::Dither => 16 * (y / 32) + [0, 0, 1, 9][noise(x, y) % 4],
             Picture::Flat => [40, 41, 96, 200][(x / 50 + y / 40) % 4],
         };

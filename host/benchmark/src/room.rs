@@ -1,7 +1,7 @@
 //! Writes the measured rooms: a background under given coding methods, planes, and objects with two states.
 
 use crate::picture::{plane, shape, Picture};
-use common::bits::Bits;
+use common::bits::{Bits, RUN};
 use reference::write;
 
 #[derive(Clone, Copy, PartialEq)]
@@ -47,7 +47,7 @@ fn second(pixels: &[u8]) -> Vec<u8> {
     while i < pixels.len() {
         let run = pixels[i..].iter().take_while(|pixel| **pixel == colour).count().min(256);
         if run > 13 {
-            bits.put(0b100_11 | (run - 1) << 5, 13);
+            bits.put(RUN | (run - 1) << 5, 13);
             i += run;
             continue;
         }

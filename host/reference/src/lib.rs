@@ -44,7 +44,7 @@ pub(crate) fn u32_at(bytes: &[u8], at: usize) -> usize {
 
 /// Document 01, "Sizes": W a multiple of 8 from 8 to 1,024, H from 1 to 200, N from 0 to 4.
 pub fn sizes_ok(w: usize, h: usize, n: usize) -> bool {
-    w % 8 == 0 && (8..=1024).contains(&w) && (1..=200).contains(&h) && n <= 4
+    w.is_multiple_of(8) && (8..=1024).contains(&w) && (1..=200).contains(&h) && n <= 4
 }
 
 #[cfg(test)]

@@ -37,12 +37,15 @@ pub struct Change {
     pub touched: Vec<Entry>,
 }
 
+/// An image as it is read: its strips, or its refusal.
+type ReadImage = Result<Rc<Vec<Strip>>, u32>;
+
 /// A tested room with its objects. An image is read once, however often it is drawn.
 pub struct Scene<'a> {
     pub bytes: &'a [u8],
     pub ground: Painted,
     pub objects: Vec<Object<'a>>,
-    read: RefCell<BTreeMap<(usize, usize), Result<Rc<Vec<Strip>>, u32>>>,
+    read: RefCell<BTreeMap<(usize, usize), ReadImage>>,
 }
 
 /// The newest strip position of an object in the history, in pixels.
@@ -70,7 +73,7 @@ impl<'a> Scene<'a> {
     /// Refusal 12: "x or image width not a multiple of 8, a zero size, or a box not wholly in the room".
     fn allowed(&self, (x, y): (usize, usize), (width, height): (usize, usize)) -> bool {
         let inside = x + width <= self.ground.room.w && y + height <= self.ground.room.h;
-        x % 8 == 0 && width % 8 == 0 && width > 0 && height > 0 && inside
+        x.is_multiple_of(8) && width.is_multiple_of(8) && width > 0 && height > 0 && inside
     }
 
     /// 11, 12, then the image's own refusals.

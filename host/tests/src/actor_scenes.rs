@@ -16,7 +16,7 @@ pub fn every_point(b: &mut Bench, r: &mut Rng) {
     for clip in [0, 1, 2, 3, 4, 5, 0x8000_0000, 0xFFFF_FFFF] {
         for y in 0..=h {
             for x in 0..=w {
-                calls::hidden(b, &masks, w as u32, h as u32, n as u32, clip, x as u32, y as u32);
+                calls::hidden(b, &masks, [w as u32, h as u32, n as u32], clip, (x as u32, y as u32));
             }
         }
     }
@@ -31,7 +31,7 @@ pub fn questions(b: &mut Bench, r: &mut Rng) {
         let (x, y, clip) = (r.below(w) as u32, r.below(h) as u32, r.below(6) as u32);
         let (w, h, n) = (r.near(w as u32, &W), r.near(h as u32, &H), r.near(n as u32, &N));
         let (x, y, clip) = (r.wild(x), r.wild(y), r.wild(clip));
-        calls::hidden(b, &masks, w, h, n, clip, x, y);
+        calls::hidden(b, &masks, [w, h, n], clip, (x, y));
     }
 }
 

@@ -113,7 +113,7 @@ pub fn name(b: &mut Bench, room: &[u8], which: u32) {
     b.case("name_number", &[which as i64], &[("room", room)], library, |_| number(answer));
 }
 
-pub fn hidden(b: &mut Bench, masks: &[u8], w: u32, h: u32, n: u32, clip: u32, x: u32, y: u32) {
+pub fn hidden(b: &mut Bench, masks: &[u8], [w, h, n]: [u32; 3], clip: u32, (x, y): (u32, u32)) {
     let library = |p: &[*mut u8]| unsafe { kg_hidden(p[0], masks.len(), w, h, n, clip, x, y) };
     let numbers = [w, h, n, clip, x, y].map(i64::from);
     b.case("hidden", &numbers, &[("masks", masks)], library, |_| word(actor::hidden(masks, w, h, n, clip, x, y).map(usize::from)));
@@ -129,8 +129,17 @@ pub fn stamp(b: &mut Bench, frame: &[u8], masks: &[u8], w: u32, h: u32, n: u32, 
     b.case("stamp", &numbers, &buffers, library, |after| number(actor::stamp(&mut after[0], masks, w, h, n, a)));
 }
 
+/// Where a costume's offset table, with how many offsets, and its stream stand, as the caller gives it.
+#[derive(Clone, Copy)]
+pub struct Costume {
+    pub table: u32,
+    pub count: u32,
+    pub command: u32,
+}
+
 /// A start: the limbs after it.
-pub fn start(b: &mut Bench, payload: &[u8], limbs: &[u8], table: u32, count: u32, command: u32, chore: u32, direction: u32) -> Vec<u8> {
+pub fn start(b: &mut Bench, payload: &[u8], limbs: &[u8], costume: Costume, chore: u32, direction: u32) -> Vec<u8> {
+    let Costume { table, count, command } = costume;
     let library = |p: &[*mut u8]| unsafe { kg_start(p[0], payload.len(), p[1], limbs.len(), table, count, command, chore, direction) };
     let numbers = [table, count, command, chore, direction].map(i64::from);
     let (_, _, mut after) = b.case("start", &numbers, &[("payload", payload), ("limbs", limbs)], library, |after| {

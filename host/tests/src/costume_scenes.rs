@@ -1,7 +1,7 @@
 //! Scenes with costumes: arbitrary bytes, and animations that play.
 
 use crate::bench::Bench;
-use crate::calls;
+use crate::calls::{self, Costume};
 use crate::rng::Rng;
 
 /// A limb that is right for a stream of `stream` bytes; idle if there is none.
@@ -15,9 +15,7 @@ fn limb(r: &mut Rng, stream: usize) -> Vec<u8> {
     let start = r.below(stream - length + 1);
     let place = start + if r.once_in(3) { length - 1 } else { r.below(length) };
     limb[0] = r.pick(&[1, 1, 2, 255]);
-    for at in 1..4 {
-        limb[at] = r.pick(&[0, 0, 1, 1, 2, 255]);
-    }
+    limb[1..4].fill_with(|| r.pick(&[0, 0, 1, 1, 2, 255]));
     limb[5] = length as u8;
     limb[8..12].copy_from_slice(&(start as u32).to_le_bytes());
     limb[12..16].copy_from_slice(&(place as u32).to_le_bytes());
@@ -63,7 +61,7 @@ pub fn arbitrary(b: &mut Bench, r: &mut Rng) {
         let (table, count) = (r.wild(table), r.wild(count));
         let (chore, direction) = (r.below(count.clamp(1, 1000) as usize / 4 + 1) as u32, r.below(4) as u32);
         let (chore, direction) = (r.wild(chore), r.wild(direction));
-        calls::start(b, &payload, &limbs, table, count, command, chore, direction);
+        calls::start(b, &payload, &limbs, Costume { table, count, command }, chore, direction);
         calls::tick(b, &payload, &limbs, command);
         let which = r.below(16) as u32;
         let which = if r.once_in(8) { r.pick(&[16, 17, 255, 256, 0x1000_0000, 0x8000_0000, 0xFFFF_FFFF]) } else { which };
@@ -102,7 +100,7 @@ pub fn playing(b: &mut Bench, r: &mut Rng) {
         if offset != payload.len() + 6 {
             continue;
         }
-        payload.extend((mask as u16).to_le_bytes());
+        payload.extend(mask.to_le_bytes());
         for _ in 0..mask.count_ones() {
             if r.once_in(4) {
                 payload.extend([0xFF, 0xFF]);
@@ -130,13 +128,14 @@ pub fn playing(b: &mut Bench, r: &mut Rng) {
         if r.once_in(12) {
             counted = r.pick(&[4 * chore + direction, 4 * chore + direction + 1, payload.len() as u32, 0xFFFF_FFFF]);
         }
+        let costume = Costume { table: table as u32, count: counted, command };
         if r.once_in(12) {
             spoil(r, &mut lent, stream.len());
-            calls::start(b, &payload, &lent, table as u32, counted, command, chore, direction);
+            calls::start(b, &payload, &lent, costume, chore, direction);
             calls::tick(b, &payload, &lent, command);
         }
         let shown = if r.once_in(12) { &payload[..r.below(payload.len() + 1)] } else { &payload[..] };
-        limbs = calls::start(b, shown, &limbs, table as u32, counted, command, chore, direction);
+        limbs = calls::start(b, shown, &limbs, costume, chore, direction);
         for _ in 0..r.below(6) {
             limbs = calls::tick(b, &payload, &limbs, command);
             for i in 0..4 {
@@ -145,7 +144,8 @@ pub fn playing(b: &mut Bench, r: &mut Rng) {
         }
     }
     // The record and the table end where the payload does.
+    let costume = Costume { table: table as u32, count: count as u32, command: 6 };
     for length in payload.len().saturating_sub(12)..payload.len() {
-        calls::start(b, &payload[..length], &vec![0; 256], table as u32, count as u32, 6, 0, r.below(4) as u32);
+        calls::start(b, &payload[..length], &vec![0; 256], costume, 0, r.below(4) as u32);
     }
 }

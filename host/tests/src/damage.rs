@@ -60,9 +60,12 @@ pub fn tree(r: &mut Rng, plan: &mut Plan) {
     }
 }
 
+/// A needed block: the tags from the room to its parent, its own, the bytes of its fixed fields.
+type Needed<'a> = (&'a [&'a [u8; 4]], &'a [u8; 4], usize);
+
 /// 2: a needed block missing, too short, or behind a bad one of its tag.
 pub fn needed(r: &mut Rng, plan: &mut Plan) {
-    let needed: [(&[&[u8; 4]], &[u8; 4], usize); 7] = [
+    let needed: [Needed; 7] = [
         (&[], b"RMHD", 6),
         (&[], b"RMIM", 0),
         (&[b"RMIM"], b"RMIH", 2),

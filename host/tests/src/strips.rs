@@ -1,7 +1,7 @@
 //! Strip tables and bodies: operations drawn at random and encoded, so that they decode; or spoilt at one place.
 
 use crate::rng::Rng;
-use common::bits::Bits;
+use common::bits::{Bits, RUN};
 
 /// A block of strips: `width` is the bytes of an offset, 4 in SMAP, 2 in ZP; a strip without body has offset 0.
 #[derive(Clone)]
@@ -91,7 +91,7 @@ pub fn pixel_body(r: &mut Rng, code: u8, h: usize, fault: Fault) -> Vec<u8> {
         let left = 8 * h - made;
         if fault == Fault::Overrun && second && left <= 255 && (made >= spoil_at || left < 8) {
             let n = if r.once_in(2) { left } else { r.range(left, 255) };
-            bits.put(0b100_11, 5);
+            bits.put(RUN, 5);
             bits.put(n, 8);
             // Sometimes the number's own bits are missing: then it is 7, not 8.
             if r.once_in(4) {
@@ -118,7 +118,7 @@ pub fn pixel_body(r: &mut Rng, code: u8, h: usize, fault: Fault) -> Vec<u8> {
             (3, true) => {
                 let n = r.below(left.min(256));
                 let n = if r.once_in(3) { left.min(256) - 1 } else { n };
-                bits.put(0b100_11, 5);
+                bits.put(RUN, 5);
                 bits.put(n, 8);
                 made += n;
             }
