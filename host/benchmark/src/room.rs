@@ -198,3 +198,28 @@ impl Room {
         self.spec.n * (self.spec.w / 8) * self.spec.h
     }
 }
+
+#[cfg(test)]
+mod tests {
+    use super::*;
+    use crate::picture::PICTURES;
+    use reference::strip;
+
+    /// Every strip of every picture, under every method.
+    #[test]
+    fn bodies_read_back() {
+        let (w, h) = (64, 33);
+        for (picture, method) in PICTURES.iter().flat_map(|picture| METHODS.map(|method| (picture, method))) {
+            for pixels in strips(&picture.pixels(w, h), w) {
+                assert_eq!(strip::pixels(&body(method, &pixels), h), Ok(pixels), "{}", picture.name());
+            }
+        }
+    }
+
+    /// A run of 256 pixels, the longest that one operation gives, and one more.
+    #[test]
+    fn long_runs_read_back() {
+        let pixels = [vec![7; 1 + 256 + 256 + 7], vec![200; 8]].concat();
+        assert_eq!(strip::pixels(&second(&pixels), pixels.len() / 8), Ok(pixels));
+    }
+}

@@ -25,3 +25,18 @@ impl Bits {
         }
     }
 }
+
+/// Document 01's worked rows 3 and 6, put together from their operations.
+#[test]
+fn worked_rows() {
+    let mut third = Bits::after(vec![0x1C, 5]);
+    for (number, bits) in [(0, 1), (0b011, 3), (0b011, 3), (0b111, 3), (0b01, 2), (9, 8), (0, 10)] {
+        third.put(number, bits);
+    }
+    assert_eq!((third.bytes, third.used), (vec![0x1C, 5, 0xB6, 0x97, 0, 0], 46));
+    let mut sixth = Bits::after(vec![0x44, 0x10]);
+    for (number, bits) in [(0b11, 2), (0, 3), (RUN, 5), (13, 8)] {
+        sixth.put(number, bits);
+    }
+    assert_eq!((sixth.bytes, sixth.used), (vec![0x44, 0x10, 0x63, 0x36, 0], 34));
+}

@@ -195,3 +195,21 @@ pub fn plane(r: &mut Rng, w: usize, h: usize) -> Strips {
     }
     Strips { width: 2, h, bodies, gap, wrong: vec![], cut: None }
 }
+
+#[cfg(test)]
+mod tests {
+    use super::*;
+    use reference::{mask, strip};
+
+    /// What the scenes count on: a body without a fault is accepted, a cut one is refused as cut.
+    #[test]
+    fn bodies_are_right_or_cut() {
+        let r = &mut Rng::new(1);
+        for _ in 0..4000 {
+            let (code, h) = (any_code(r), r.range(1, 200));
+            assert_eq!(strip::pixels(&pixel_body(r, code, h, Fault::None), h).map(|pixels| pixels.len()), Ok(8 * h));
+            assert_eq!(strip::pixels(&pixel_body(r, code, h, Fault::Cut), h), Err(7));
+            assert_eq!(mask::rows(&mask_body(r, h, Fault::None), h).map(|rows| rows.len()), Ok(h));
+        }
+    }
+}
