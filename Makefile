@@ -2,10 +2,16 @@
 #
 #     make                             target/staticlib/libkildegrom.a, proved by rt
 #     make install PREFIX=/usr/local   header, library and pkg-config file; DESTDIR is put before PREFIX
+#     make uninstall PREFIX=/usr/local removes these three files; folders stay
 #     make example                     target/host/example, from which a host can start
-#     make programs                    example, show (the picture of a room) and write (one block)
+#     make show                        target/host/show, the picture of a room
+#     make write                       target/host/write, one block
+#     make programs                    example, show and write
 #     make picture                     docs/harbour.png, the picture of the README
-#     make check                       ./test
+#     make test                        ./test
+#     make check                       ./test, too
+#     make clean                       removes target/: what was built, and what rt has proved
+#     make help                        these lines
 
 PREFIX = /usr/local
 VERSION = 0.1.0
@@ -18,10 +24,14 @@ OUT = target/host
 PROGRAMS = example show write
 COMPILE = $(CC) -std=c99 -Wall -Wextra -pedantic $(CFLAGS) -Iinclude
 
-.PHONY: all install check picture programs $(PROGRAMS)
+.PHONY: all install uninstall picture programs test check clean help $(PROGRAMS)
 .DELETE_ON_ERROR:
 
 all: $(LIBRARY)
+
+# Where the files go, a relative PREFIX seen from here. The recipes have it from the environment, so that any character may stand in it.
+TREE = $(DESTDIR)$(if $(filter-out /%,$(firstword $(PREFIX))),$(CURDIR)/)$(PREFIX)
+install uninstall: export TREE := $(TREE)
 
 # rt itself knows which crates are proved already; it is asked only where a source is newer than the library.
 $(LIBRARY): crates.txt $(shell find crates -name '*.rt' -o -name '*.antt')
@@ -40,11 +50,14 @@ $(OUT)/%: include/kildegrom.h $(LIBRARY)
 	$(COMPILE) host/$*/$*.c $(LIBRARY) $(LDFLAGS) -o $@
 
 install: $(LIBRARY)
-	$(INSTALL) -d $(DESTDIR)$(PREFIX)/include $(DESTDIR)$(PREFIX)/lib/pkgconfig
-	$(INSTALL) -m 644 include/kildegrom.h $(DESTDIR)$(PREFIX)/include/kildegrom.h
-	$(INSTALL) -m 644 $(LIBRARY) $(DESTDIR)$(PREFIX)/lib/libkildegrom.a
-	sed -e 's|@PREFIX@|$(PREFIX)|' -e 's|@VERSION@|$(VERSION)|' host/kildegrom.pc.in > $(DESTDIR)$(PREFIX)/lib/pkgconfig/kildegrom.pc
-	chmod 644 $(DESTDIR)$(PREFIX)/lib/pkgconfig/kildegrom.pc
+	$(INSTALL) -d "$$TREE/include" "$$TREE/lib/pkgconfig"
+	$(INSTALL) -m 644 include/kildegrom.h "$$TREE/include/kildegrom.h"
+	$(INSTALL) -m 644 $(LIBRARY) "$$TREE/lib/libkildegrom.a"
+	sed -e 's|@VERSION@|$(VERSION)|' host/kildegrom.pc.in > "$$TREE/lib/pkgconfig/kildegrom.pc"
+	chmod 644 "$$TREE/lib/pkgconfig/kildegrom.pc"
+
+uninstall:
+	rm -f "$$TREE/include/kildegrom.h" "$$TREE/lib/libkildegrom.a" "$$TREE/lib/pkgconfig/kildegrom.pc"
 
 picture: docs/harbour.png
 
@@ -54,5 +67,11 @@ docs/harbour.png: rooms/harbour.room rooms/harbour.calls rooms/harbour.pal tools
 	$(SHOW_HARBOUR) --plane 1 --boxes > $(OUT)/harbour-plane.ppm
 	tools/png --scale 2 $(OUT)/harbour.ppm $(OUT)/harbour-plane.ppm > $@
 
-check:
+test check:
 	./test
+
+clean:
+	rm -rf target
+
+help:
+	@sed -n 's/^#     //p' Makefile
