@@ -2,11 +2,13 @@
  *
  *     show [--plane K] [--boxes] [--palette FILE] ROOM [RECORDS]
  *
- * RECORDS is what tools/calls makes of a list. A refused call is named on standard error and leaves the picture as it was. --plane tints
- * the pixels that plane K hides, --boxes outlines the objects' boxes, a palette is 768 bytes (red, green, blue of the colours 0 to 255).
- * Exit status: 0; 1 the load was refused; 2 a wrong argument or file. */
+ * RECORDS is what tools/calls makes of a list. A refused call leaves the picture as it was, and standard error has a line of its place in
+ * the list and its number, `call 3: 12`, as the player writes it; the script turns it into the list's own words. --plane tints the pixels
+ * that plane K hides, --boxes outlines the objects' boxes, a palette is 768 bytes (red, green, blue of the colours 0 to 255).
+ * Exit status: 0; 1 the load was refused or the picture can't be written; 2 a wrong argument or file. */
 #include "kildegrom.h"
 
+#include <errno.h>
 #include <stdarg.h>
 #include <stdio.h>
 #include <stdlib.h>
@@ -131,18 +133,6 @@ static uint32_t made(struct call c)
     }
 }
 
-/* Names a refused call as the list of calls writes it. */
-static void tell_refused(unsigned long index, struct call c, uint32_t number)
-{
-    unsigned long object = c.object, state = c.state, a = c.a, b = c.b;
-    fprintf(stderr, "show: call %lu, ", index);
-    if (c.kind == HIDE) fprintf(stderr, "hide %lu", object);
-    if (c.kind == DRAW_LAST) fprintf(stderr, "draw %lu %lu", object, state);
-    if (c.kind == DRAW_AT) fprintf(stderr, "draw %lu %lu at %lu %lu", object, state, a, b);
-    if (c.kind == TAKE_BACK) fprintf(stderr, "back");
-    fprintf(stderr, ": refused %lu: %s\n", (unsigned long)number, kg_refusal_text(number));
-}
-
 static void make_calls(const char *path)
 {
     FILE *file = opened(path);
@@ -160,7 +150,7 @@ static void make_calls(const char *path)
         if (c.kind > TAKE_BACK) stop(2, "%s: record %lu is of no known kind", path, index + 1);
         number = made(c);
         index++;
-        if (number != KG_ACCEPTED) tell_refused(index, c, number);
+        if (number != KG_ACCEPTED) fprintf(stderr, "call %lu: %lu\n", index, (unsigned long)number);
     }
     if (n != 0 || ferror(file)) stop(2, "%s: not a whole number of records of %d bytes", path, CALL_SIZE);
     fclose(file);
@@ -192,14 +182,28 @@ static void dot(uint32_t x, uint32_t y)
     if (x < width && y < height) memcpy(picture + 3 * ((size_t)y * width + x), yellow, 3);
 }
 
-/* The box of the object's CDHD; its sizes there are in strips of 8 pixels, and it may pass the room's edges. */
+/* The object's newest strip position in the history (docs/LAYOUTS.md, "Session"): its bytes a and b, NULL where it has none. */
+static const uint8_t *newest_position(uint32_t object)
+{
+    uint32_t i;
+    for (i = session[0]; i > 0; i--) {
+        const uint8_t *step = session + 2 + 5 * (i - 1);
+        if (step[0] >= DRAW_AT && step[1] == object) return step + 3;
+    }
+    return NULL;
+}
+
+/* The object's box as the point question has it: CDHD's sizes, at the newest strip position, else at CDHD's place. All are in strips of 8
+ * pixels, and the box may pass the room's edges. */
 static void outline(uint32_t object)
 {
     uint8_t header[KG_HEADER_SIZE];
+    const uint8_t *place = newest_position(object);
     uint32_t left, top, wide, high, i;
     if (kg_header(room, room_size, header, sizeof header, object) != KG_ACCEPTED) return;
-    left = 8u * header[2];
-    top = 8u * header[3];
+    if (place == NULL) place = header + 2;
+    left = 8u * place[0];
+    top = 8u * place[1];
     wide = 8u * header[4];
     high = 8u * header[5];
     if (wide == 0 || high == 0) return;
@@ -217,7 +221,7 @@ static void write_picture(void)
 {
     printf("P6\n%lu %lu\n255\n", (unsigned long)width, (unsigned long)height);
     fwrite(picture, 3, pixels_size, stdout);
-    if (fflush(stdout) != 0 || ferror(stdout)) stop(2, "the picture can't be written");
+    if (fflush(stdout) != 0 || ferror(stdout)) stop(1, "the picture can't be written: %s", strerror(errno));
 }
 
 int main(int argc, char **argv)
