@@ -14,7 +14,7 @@
 #     make help                        these lines
 
 PREFIX = /usr/local
-VERSION = 0.1.0
+VERSION := $(shell sed -n 's/^.define KG_VERSION_TEXT "\(.*\)"/\1/p' include/kildegrom.h)
 RT ?= rt
 CFLAGS ?= -O2
 INSTALL = install

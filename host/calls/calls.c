@@ -1,75 +1,9 @@
 /* Calls every function of include/kildegrom.h over the C interface: the sample room is loaded, written again block by block, loaded from
  * what was written, and an actor is stamped behind its plane. Guard bytes stand around each lent buffer. */
-#include "kildegrom.h"
+#include "block.h"
+#include "lent.h"
 
-#include <stdio.h>
-#include <stdlib.h>
-#include <string.h>
-
-enum { GUARD = 64, WIDTH = 320, HEIGHT = 144, STRIPS = WIDTH / 8 };
-
-static int checks;
-
-static void expect(int ok, const char *what)
-{
-    checks++;
-    if (!ok) {
-        fprintf(stderr, "calls: %s\n", what);
-        exit(1);
-    }
-}
-
-/* A buffer of `size` bytes of value `fill` with guard bytes on both sides. */
-struct lent {
-    uint8_t *all;
-    uint8_t *at;
-    size_t size;
-};
-
-static struct lent lend(size_t size, int fill)
-{
-    struct lent b;
-    b.all = (uint8_t *)malloc(size + 2 * GUARD);
-    expect(b.all != NULL, "out of memory");
-    memset(b.all, 0xA5, size + 2 * GUARD);
-    b.at = b.all + GUARD;
-    b.size = size;
-    memset(b.at, fill, size);
-    return b;
-}
-
-static void give_back(struct lent b)
-{
-    size_t i;
-    for (i = 0; i < GUARD; i++) {
-        expect(b.all[i] == 0xA5 && b.at[b.size + i] == 0xA5, "a byte outside a lent buffer was written");
-    }
-    free(b.all);
-}
-
-static int all(const uint8_t *bytes, size_t n, int value)
-{
-    size_t i;
-    for (i = 0; i < n; i++) {
-        if (bytes[i] != value) return 0;
-    }
-    return 1;
-}
-
-static struct lent read_file(const char *path)
-{
-    FILE *f = fopen(path, "rb");
-    struct lent b;
-    long n;
-    expect(f != NULL, "the room's file cannot be opened");
-    fseek(f, 0, SEEK_END);
-    n = ftell(f);
-    fseek(f, 0, SEEK_SET);
-    b = lend((size_t)n, 0);
-    expect(fread(b.at, 1, b.size, f) == b.size, "the room's file cannot be read");
-    fclose(f);
-    return b;
-}
+enum { WIDTH = 320, HEIGHT = 144, STRIPS = WIDTH / 8 };
 
 static void record_and_objects(struct lent room)
 {
@@ -79,17 +13,19 @@ static void record_and_objects(struct lent room)
     expect(kg_record(room.at, room.size, record.at, KG_RECORD_SIZE - 1) == KG_BUFFER_SHORT, "a record of 15 bytes");
     expect(all(record.at, record.size, 0x77), "a refused record is unchanged");
     expect(kg_record(room.at, room.size, record.at, record.size) == KG_ACCEPTED, "the record");
-    expect(kg_u16(record.at) == WIDTH && kg_u16(record.at + 2) == HEIGHT && kg_u16(record.at + 4) == 1 && kg_u16(record.at + 6) == 3, "the record's numbers");
-    expect(record.at[8] == 255 && all(record.at + 9, 7, 0) && all(record.at + 16, 3, 0x77), "the record's end");
+    expect(kg_u16(record.at + KG_RECORD_WIDTH) == WIDTH && kg_u16(record.at + KG_RECORD_HEIGHT) == HEIGHT, "the record's size");
+    expect(kg_u16(record.at + KG_RECORD_PLANES) == 1 && kg_u16(record.at + KG_RECORD_OBJECTS) == 3, "the record's counts");
+    expect(record.at[KG_RECORD_TRANSPARENT] == 255 && all(record.at + 9, 7, 0) && all(record.at + 16, 3, 0x77), "the record's end");
     expect(kg_record(room.at, room.size - 1, record.at, record.size) == KG_NOT_A_ROOM, "a room that is cut");
     expect(kg_header(room.at, room.size, header.at, header.size, 0) == KG_NO_SUCH_OBJECT, "object 0");
     expect(kg_header(room.at, room.size, header.at, header.size, 4) == KG_NO_SUCH_OBJECT, "object 4 of 3");
     expect(kg_header(room.at, room.size, header.at, header.size, 0xFFFFFFFFu) == KG_NO_SUCH_OBJECT, "object 2^32 - 1");
     expect(all(header.at, header.size, 0x77), "a refused header is unchanged");
     expect(kg_header(room.at, room.size, header.at, header.size, 3) == KG_ACCEPTED, "object 3");
-    expect(kg_u16(header.at) == 103 && header.at[2] == 30 && kg_i16(header.at + 8) == -25 && kg_i16(header.at + 10) == 110, "the header");
+    expect(kg_u16(header.at + KG_HEADER_ID) == 103 && header.at[KG_HEADER_X] == 30, "the header");
+    expect(kg_i16(header.at + KG_HEADER_WALK_X) == -25 && kg_i16(header.at + KG_HEADER_WALK_Y) == 110, "the header's walk point");
     name = kg_name(room.at, room.size, 1);
-    expect(kg_value(name) == 8 && memcmp(room.at + kg_number(name), "door@@@@", 8) == 0, "the name of object 1");
+    expect(kg_name_length(name) == 8 && memcmp(room.at + kg_name_start(name), "door@@@@", 8) == 0, "the name of object 1");
     expect(kg_name_number(room.at, room.size, 1) == KG_ACCEPTED && kg_name_number(room.at, room.size, 9) == KG_NO_SUCH_OBJECT, "the name's number");
     expect(kg_name(room.at, room.size, 9) == 0, "a refused name");
     give_back(record);
@@ -107,14 +43,7 @@ static struct lent rewritten(struct lent room, struct lent pixels, struct lent m
     struct { const char *tag; uint32_t at, size; } heads[5] = {
         { "ROOM", 0, 48 + both }, { "RMHD", 8, 14 }, { "RMIM", 22, 26 + both }, { "RMIH", 30, 10 }, { "IM00", 40, 8 + both } };
     expect(kg_number(smap) == 0 && kg_number(zp) == 0 && memcmp(at, "SMAP", 4) == 0 && memcmp(at + kg_value(smap), "ZP01", 4) == 0, "the writers");
-    for (k = 0; k < 5; k++) {
-        uint8_t *b = out.at + heads[k].at;
-        memcpy(b, heads[k].tag, 4);
-        b[4] = (uint8_t)(heads[k].size >> 24);
-        b[5] = (uint8_t)(heads[k].size >> 16);
-        b[6] = (uint8_t)(heads[k].size >> 8);
-        b[7] = (uint8_t)heads[k].size;
-    }
+    for (k = 0; k < 5; k++) put_head(out.at + heads[k].at, heads[k].tag, heads[k].size);
     memcpy(out.at + 16, room.at + 16, 6);
     memcpy(out.at + 38, "\1\0", 2);
     out.size = 48 + both;
@@ -279,9 +208,29 @@ static void costume(void)
     give_back(limbs);
 }
 
+/* What docs/LAYOUTS.md says of a limb's bytes: a start zeroes the picture byte and the one before it, keeps the stopped byte and the two
+ * unused ones, and writes 1 or 0 as active and no-loop; a tick leaves active and no-loop as they are, whatever they hold. */
+static void limb_bytes(void)
+{
+    static const uint8_t payload[] = { 8, 0, 0x00, 0x80, 0, 0, 1, 0, 0x11, 0x12 };
+    static const uint8_t lent[KG_LIMB_SIZE] = { 7, 9, 5, 3, 0x66, 2, 0xEE, 0xDD, 0, 0, 0, 0, 1, 0, 0, 0 };
+    static const uint8_t started[KG_LIMB_SIZE] = { 1, 9, 0, 0, 0, 2, 0xEE, 0xDD, 0, 0, 0, 0, 0, 0, 0, 0 };
+    static const uint8_t ticked[KG_LIMB_SIZE] = { 7, 9, 5, 1, 0x12, 2, 0xEE, 0xDD, 0, 0, 0, 0, 1, 0, 0, 0 };
+    struct lent limbs = lend(KG_LIMBS_SIZE, 0);
+    memcpy(limbs.at, lent, sizeof lent);
+    expect(kg_tick(payload, sizeof payload, limbs.at, limbs.size, 14) == KG_ACCEPTED, "a tick of odd bytes");
+    expect(memcmp(limbs.at, ticked, sizeof ticked) == 0, "a tick leaves active, stopped, no-loop and the unused bytes, and stays at the end");
+    memcpy(limbs.at, lent, sizeof lent);
+    expect(kg_start(payload, sizeof payload, limbs.at, limbs.size, 0, 1, 14, 0, KG_WEST) == (uint64_t)1 << 32, "a start over odd bytes");
+    expect(memcmp(limbs.at, started, sizeof started) == 0, "a start zeroes the picture byte and keeps the stopped and unused ones");
+    expect(all(limbs.at + KG_LIMB_SIZE, KG_LIMBS_SIZE - KG_LIMB_SIZE, 0), "the other limbs");
+    give_back(limbs);
+}
+
 int main(int argc, char **argv)
 {
     struct lent room;
+    program = "calls";
     expect(argc == 2, "usage: calls ROOM");
     room = read_file(argv[1]);
     record_and_objects(room);
@@ -290,6 +239,7 @@ int main(int argc, char **argv)
     points(room);
     list_of_steps(room);
     costume();
+    limb_bytes();
     give_back(room);
     printf("calls: %d checks passed\n", checks);
     return 0;

@@ -12,11 +12,11 @@
 
 /* The largest room and its surfaces: with these nothing is allocated. One byte more than a room may have, so that a longer file is
  * refused by the library and not cut. */
-static uint8_t room[1048576 + 1], session[KG_SESSION_SIZE], pixels[1024 * 200], masks[4 * 128 * 200], frame[sizeof pixels];
+static uint8_t room[KG_MAX_ROOM + 1], session[KG_SESSION_SIZE], pixels[KG_MAX_PIXELS], masks[KG_MAX_MASKS], frame[KG_MAX_PIXELS];
 static size_t room_size, pixels_size, masks_size;
-static uint32_t width, height, planes;
+static uint32_t room_w, room_h, planes;
 
-enum { DOOR = 1, ACTOR_WIDTH = 16, ACTOR_HEIGHT = 40 };
+enum { DOOR = 1, ACTOR_W = 16, ACTOR_H = 40 };
 
 /* The lent buffers of a session call, in their order. */
 #define LENT room, room_size, session, sizeof session, pixels, pixels_size, masks, masks_size
@@ -49,11 +49,11 @@ static void load(void)
 {
     uint8_t record[KG_RECORD_SIZE];
     accepted(kg_record(room, room_size, record, sizeof record), "the room's record");
-    width = kg_u16(record);
-    height = kg_u16(record + 2);
-    planes = kg_u16(record + 4);
-    pixels_size = (size_t)width * height;
-    masks_size = (size_t)planes * (width / 8) * height;
+    room_w = kg_u16(record + KG_RECORD_WIDTH);
+    room_h = kg_u16(record + KG_RECORD_HEIGHT);
+    planes = kg_u16(record + KG_RECORD_PLANES);
+    pixels_size = kg_pixels_size(room_w, room_h);
+    masks_size = kg_masks_size(room_w, room_h, planes);
     accepted(kg_load(LENT), "the load");
 }
 
@@ -61,10 +61,10 @@ static void load(void)
 static void paint_actor(uint8_t *picture)
 {
     int x, y;
-    for (y = 0; y < ACTOR_HEIGHT; y++) {
-        for (x = 0; x < ACTOR_WIDTH; x++) {
+    for (y = 0; y < ACTOR_H; y++) {
+        for (x = 0; x < ACTOR_W; x++) {
             int head = y < 10 && x >= 4 && x < 12, body = y >= 10 && y < 26, leg = y >= 26 && x % 8 >= 1 && x % 8 < 7;
-            picture[y * ACTOR_WIDTH + x] = (uint8_t)(head ? 250 : body ? 20 : leg ? 90 : 255);
+            picture[y * ACTOR_W + x] = (uint8_t)(head ? 250 : body ? 20 : leg ? 90 : 255);
         }
     }
 }
@@ -72,10 +72,10 @@ static void paint_actor(uint8_t *picture)
 /* The library's pixels stay as the steps made them; actors are stamped on a copy, anew for each frame. */
 static void stamp(int32_t x, int32_t y, uint32_t clip)
 {
-    uint8_t picture[ACTOR_WIDTH * ACTOR_HEIGHT];
+    uint8_t picture[ACTOR_W * ACTOR_H];
     paint_actor(picture);
-    accepted(kg_stamp(frame, pixels_size, masks, masks_size, picture, sizeof picture, width, height, planes, ACTOR_WIDTH, ACTOR_HEIGHT,
-                      x, y, clip), "the stamp");
+    accepted(kg_stamp(frame, pixels_size, masks, masks_size, picture, sizeof picture, room_w, room_h, planes, ACTOR_W, ACTOR_H, x,
+                      y, clip), "the stamp");
 }
 
 static void write_grey(const char *path)
@@ -83,7 +83,7 @@ static void write_grey(const char *path)
     FILE *out = path == NULL ? stdout : fopen(path, "wb");
     size_t i;
     if (out == NULL) stop("the file can't be written", path);
-    fprintf(out, "P6\n%lu %lu\n255\n", (unsigned long)width, (unsigned long)height);
+    fprintf(out, "P6\n%lu %lu\n255\n", (unsigned long)room_w, (unsigned long)room_h);
     for (i = 0; i < pixels_size; i++) {
         uint8_t rgb[3];
         memset(rgb, frame[i], sizeof rgb);

@@ -11,8 +11,8 @@
 #include <stdlib.h>
 #include <string.h>
 
-/* One byte more than the largest picture has, so that longer rows are seen. A pixel takes 10 bits at most, a strip 6 bytes beside them. */
-static uint8_t rows[1024 * 200 + 1], block[2 * sizeof rows];
+/* One byte more than the largest picture has, so that longer rows are seen. kg_smap_bound of the largest picture is less than twice as much. */
+static uint8_t rows[KG_MAX_PIXELS + 1], block[2 * KG_MAX_PIXELS];
 
 static void stop(const char *what)
 {
