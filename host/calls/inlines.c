@@ -129,19 +129,19 @@ static void read_steps(struct lent room)
     expect(kg_load(BUFFERS) == KG_ACCEPTED && all(session.at, session.size, 0), "the emptied session");
     expect(kg_session_steps(session.at) == 0 && kg_session_shown(session.at) == 0, "an empty session");
     expect(is_step(kg_session_step(session.at, 0), KG_STEP_NONE, 0, 0, 0, 0) && kg_session_entry(session.at, 0).object == 0, "no step, no entry");
-    expect(kg_draw_last(BUFFERS, 1, 1) == KG_ACCEPTED && kg_draw_at(BUFFERS, 2, 2, 3, 4) == KG_ACCEPTED, "two draws");
-    expect(kg_draw_at(BUFFERS, 2, 1, 0, 5) == KG_ACCEPTED && kg_draw_last(BUFFERS, 2, 2) == KG_ACCEPTED, "two more");
+    expect(kg_draw_last(BUFFERS, 1, 2) == KG_ACCEPTED && kg_draw_at(BUFFERS, 2, 2, 3, 4) == KG_ACCEPTED, "two draws");
+    expect(kg_draw_at(BUFFERS, 2, 1, 0, 5) == KG_ACCEPTED && kg_draw_last(BUFFERS, 2, 1) == KG_ACCEPTED, "two more");
     expect(kg_hide(BUFFERS, 1) == KG_ACCEPTED, "a hide");
     expect(kg_session_steps(session.at) == 5 && kg_session_shown(session.at) == 1, "the counts");
-    expect(is_step(kg_session_step(session.at, 0), KG_STEP_DRAW_LAST, 1, 1, 0, 0), "a draw at the last place");
+    expect(is_step(kg_session_step(session.at, 0), KG_STEP_DRAW_LAST, 1, 2, 0, 0), "a draw at the last place");
     expect(is_step(kg_session_step(session.at, 1), KG_STEP_DRAW_AT, 2, 2, 3, 4), "a draw at a strip position");
     expect(is_step(kg_session_step(session.at, 4), KG_STEP_HIDE, 1, 0, 0, 0), "a hide as a step");
     expect(is_step(kg_session_step(session.at, 5), KG_STEP_NONE, 0, 0, 0, 0), "a step past the count");
-    expect(kg_session_entry(session.at, 0).object == 2 && kg_session_entry(session.at, 0).state == 2, "the entry");
+    expect(kg_session_entry(session.at, 0).object == 2 && kg_session_entry(session.at, 0).state == 1, "the entry");
     expect(kg_session_entry(session.at, 1).object == 0, "an entry past the count");
-    expect(kg_session_state(session.at, 1) == 0 && kg_session_state(session.at, 2) == 2 && kg_session_state(session.at, 0) == 0, "the states");
+    expect(kg_session_state(session.at, 1) == 0 && kg_session_state(session.at, 2) == 1 && kg_session_state(session.at, 0) == 0, "the states");
     expect(is_position(kg_session_position(session.at, 2), 1, 0, 5) && is_position(kg_session_position(session.at, 1), 0, 0, 0), "the positions");
-    expect(kg_take_back(BUFFERS) == KG_ACCEPTED && kg_session_state(session.at, 1) == 1 && kg_session_shown(session.at) == 2, "a hide taken back");
+    expect(kg_take_back(BUFFERS) == KG_ACCEPTED && kg_session_state(session.at, 1) == 2 && kg_session_shown(session.at) == 2, "a hide taken back");
     expect(kg_session_entry(session.at, 0).object == 1 && kg_session_entry(session.at, 1).object == 2, "the entries' order");
     expect(kg_take_back(BUFFERS) == KG_ACCEPTED && kg_take_back(BUFFERS) == KG_ACCEPTED, "two draws taken back");
     expect(is_position(kg_session_position(session.at, 2), 1, 3, 4) && kg_session_state(session.at, 2) == 2, "a position taken back");
@@ -208,6 +208,8 @@ static void read_any_bytes(struct lent room)
         for (i = 0; i < 260; i++) {
             struct kg_step step = kg_session_step(bytes, i);
             expect((step.kind == KG_STEP_NONE) == (i >= kg_session_steps(bytes)) && step.kind <= KG_STEP_NONE, "any step");
+            expect(step.kind != KG_STEP_HIDE || (step.state == 0 && step.a == 0 && step.b == 0), "what a hide doesn't have");
+            expect(step.kind != KG_STEP_DRAW_LAST || (step.a == 0 && step.b == 0), "what a draw at the last place doesn't have");
             expect(i < kg_session_shown(bytes) || kg_session_entry(bytes, i).object == 0, "any entry");
             expect(kg_session_state(bytes, i) <= 255 && kg_session_position(bytes, i).known <= 1, "any object");
         }
