@@ -208,31 +208,41 @@ static void costume(void)
     give_back(limbs);
 }
 
-/* What docs/LAYOUTS.md says of a limb's bytes: a start zeroes the picture byte and the one before it, keeps the stopped byte and the two
- * unused ones, and writes 1 or 0 as active and no-loop; a tick leaves active and no-loop as they are, whatever they hold. */
+/* One call on 16 limbs, of which limb 0 has the bytes given and the others are idle with odd bytes: limb 0 must have the bytes wanted, and
+ * the others must stay. The record names limb 0 alone; `stream` is the command stream's first byte, which the tick reads. */
+static void limb_becomes(int tick, const uint8_t *given, const uint8_t *wanted, uint8_t start, uint8_t stream, const char *what)
+{
+    static const uint8_t idle[KG_LIMB_SIZE] = { 0, 9, 5, 3, 0x66, 200, 0xEE, 0xDD, 1, 2, 3, 4, 5, 6, 7, 8 };
+    const uint8_t payload[] = { 8, 0, 0x00, 0x80, start, start, 1, 0, stream, 0x12 };
+    struct lent limbs = lend(KG_LIMBS_SIZE, 0);
+    size_t i;
+    for (i = 0; i < KG_LIMBS; i++) memcpy(limbs.at + KG_LIMB_SIZE * i, i == 0 ? given : idle, KG_LIMB_SIZE);
+    if (tick) expect(kg_tick(payload, sizeof payload, limbs.at, limbs.size, 14) == KG_ACCEPTED, what);
+    else expect(kg_start(payload, sizeof payload, limbs.at, limbs.size, 0, 1, 14, 0, KG_WEST) == (uint64_t)1 << 32, what);
+    expect(memcmp(limbs.at, wanted, KG_LIMB_SIZE) == 0, what);
+    for (i = 1; i < KG_LIMBS; i++) expect(memcmp(limbs.at + KG_LIMB_SIZE * i, idle, KG_LIMB_SIZE) == 0, "the other limbs");
+    give_back(limbs);
+}
+
+/* What docs/LAYOUTS.md says of a limb's bytes. */
 static void limb_bytes(void)
 {
-    static const uint8_t payload[] = { 8, 0, 0x00, 0x80, 0, 0, 1, 0, 0x11, 0x12 };
-    static const uint8_t lent[KG_LIMB_SIZE] = { 7, 9, 5, 3, 0x66, 2, 0xEE, 0xDD, 0, 0, 0, 0, 1, 0, 0, 0 };
+    static const uint8_t odd[KG_LIMB_SIZE] = { 7, 9, 5, 3, 0x66, 2, 0xEE, 0xDD, 0, 0, 0, 0, 0, 0, 0, 0 };
     static const uint8_t started[KG_LIMB_SIZE] = { 1, 9, 0, 0, 0, 2, 0xEE, 0xDD, 0, 0, 0, 0, 0, 0, 0, 0 };
-    static const uint8_t ticked[KG_LIMB_SIZE] = { 7, 9, 5, 1, 0x12, 2, 0xEE, 0xDD, 0, 0, 0, 0, 1, 0, 0, 0 };
-    struct lent limbs = lend(KG_LIMBS_SIZE, 0);
-    memcpy(limbs.at, lent, sizeof lent);
-    expect(kg_tick(payload, sizeof payload, limbs.at, limbs.size, 14) == KG_ACCEPTED, "a tick of odd bytes");
-    expect(memcmp(limbs.at, ticked, sizeof ticked) == 0, "a tick leaves active, stopped, no-loop and the unused bytes, and stays at the end");
-    memcpy(limbs.at, lent, sizeof lent);
-    expect(kg_start(payload, sizeof payload, limbs.at, limbs.size, 0, 1, 14, 0, KG_WEST) == (uint64_t)1 << 32, "a start over odd bytes");
-    expect(memcmp(limbs.at, started, sizeof started) == 0, "a start zeroes the picture byte and keeps the stopped and unused ones");
-    expect(all(limbs.at + KG_LIMB_SIZE, KG_LIMBS_SIZE - KG_LIMB_SIZE, 0), "the other limbs");
-    give_back(limbs);
+    static const uint8_t idled[KG_LIMB_SIZE] = { 0, 9, 0, 0, 0, 0, 0xEE, 0xDD, 0, 0, 0, 0, 0, 0, 0, 0 };
+    static const uint8_t pictured[KG_LIMB_SIZE] = { 7, 9, 5, 1, 0x11, 2, 0xEE, 0xDD, 0, 0, 0, 0, 1, 0, 0, 0 };
+    static const uint8_t stopped[KG_LIMB_SIZE] = { 7, 1, 5, 3, 0x66, 2, 0xEE, 0xDD, 0, 0, 0, 0, 1, 0, 0, 0 };
+    static const uint8_t passed_over[KG_LIMB_SIZE] = { 7, 9, 5, 3, 0x66, 2, 0xEE, 0xDD, 0, 0, 0, 0, 1, 0, 0, 0 };
+    limb_becomes(0, odd, started, 0, 0x11, "a start zeroes the picture byte, and keeps the stopped and the unused ones");
+    limb_becomes(0, odd, idled, 0xFF, 0x11, "idling zeroes all but the stopped byte and the unused ones");
+    limb_becomes(1, odd, pictured, 0, 0x11, "a tick that reads a picture leaves active, stopped and no-loop");
+    limb_becomes(1, odd, stopped, 0, 0x79, "a tick that reads 79 writes the stopped byte alone");
+    limb_becomes(1, odd, passed_over, 0, 0x71, "a tick that reads 71 moves the place alone");
 }
 
 int main(int argc, char **argv)
 {
-    struct lent room;
-    program = "calls";
-    expect(argc == 2, "usage: calls ROOM");
-    room = read_file(argv[1]);
+    struct lent room = given_room("calls", argc, argv);
     record_and_objects(room);
     load_and_write(room);
     steps(room);
@@ -240,7 +250,5 @@ int main(int argc, char **argv)
     list_of_steps(room);
     costume();
     limb_bytes();
-    give_back(room);
-    printf("calls: %d checks passed\n", checks);
-    return 0;
+    return passed(room);
 }

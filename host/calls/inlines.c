@@ -238,10 +238,7 @@ static void directions(void)
 
 int main(int argc, char **argv)
 {
-    struct lent room;
-    program = "inlines";
-    expect(argc == 2, "usage: inlines ROOM");
-    room = read_file(argv[1]);
+    struct lent room = given_room("inlines", argc, argv);
     surfaces(room);
     largest();
     bounds();
@@ -249,7 +246,5 @@ int main(int argc, char **argv)
     read_a_list(room);
     read_any_bytes(room);
     directions();
-    give_back(room);
-    printf("inlines: %d checks passed\n", checks);
-    return 0;
+    return passed(room);
 }

@@ -74,4 +74,19 @@ static struct lent read_file(const char *path)
     return b;
 }
 
+/* The start and the end of a program of checks: it is given a room. */
+static struct lent given_room(const char *name, int argc, char **argv)
+{
+    program = name;
+    expect(argc == 2, "usage: one argument, a room's file");
+    return read_file(argv[1]);
+}
+
+static int passed(struct lent room)
+{
+    give_back(room);
+    printf("%s: %d checks passed\n", program, checks);
+    return 0;
+}
+
 #endif
