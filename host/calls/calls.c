@@ -56,13 +56,15 @@ static void load_and_write(struct lent room)
     struct lent session = lend(KG_SESSION_SIZE + 5, 0x33), pixels = lend(WIDTH * HEIGHT, 1), masks = lend(STRIPS * HEIGHT, 2);
     struct lent again = lend(WIDTH * HEIGHT, 3), masks_again = lend(STRIPS * HEIGHT, 4), copy;
     expect(kg_load(room.at, room.size, session.at, session.size, pixels.at, pixels.size - 1, masks.at, masks.size) == KG_BUFFER_SHORT, "pixels one short");
-    expect(kg_load(room.at, room.size, session.at, KG_SESSION_SIZE - 1, pixels.at, pixels.size, masks.at, masks.size) == KG_BUFFER_SHORT, "a session one short");
+    expect(kg_load(room.at, room.size, session.at, KG_SESSION_SIZE - 1, pixels.at, pixels.size, masks.at, masks.size) == KG_BUFFER_SHORT,
+           "a session one short");
     expect(all(pixels.at, pixels.size, 1) && all(masks.at, masks.size, 2) && all(session.at, session.size, 0x33), "a refused load changes nothing");
     expect(kg_load(room.at, room.size, session.at, session.size, pixels.at, pixels.size, masks.at, masks.size) == KG_ACCEPTED, "the load");
     expect(all(session.at, KG_SESSION_SIZE, 0) && all(session.at + KG_SESSION_SIZE, 5, 0x33), "the emptied session");
     expect(pixels.at[0] == 40 && pixels.at[16] == 42 && masks.at[90 * STRIPS] == 255 && masks.at[50 * STRIPS + 4] == 0x3C, "the surfaces");
     copy = rewritten(room, pixels, masks);
-    expect(kg_load(copy.at, copy.size, session.at, session.size, again.at, again.size, masks_again.at, masks_again.size) == KG_ACCEPTED, "the load of what was written");
+    expect(kg_load(copy.at, copy.size, session.at, session.size, again.at, again.size, masks_again.at, masks_again.size) == KG_ACCEPTED,
+           "the load of what was written");
     expect(memcmp(pixels.at, again.at, pixels.size) == 0 && memcmp(masks.at, masks_again.at, masks.size) == 0, "what was written reads back");
     give_back(copy);
     give_back(session);
@@ -73,12 +75,16 @@ static void load_and_write(struct lent room)
         struct lent actor = lend(64, 9);
         actor.at[0] = 255;
         expect(kg_hidden(masks.at, masks.size, WIDTH, HEIGHT, 1, 1, 0, 90) == (uint64_t)1 << 32, "a hidden pixel");
-        expect(kg_hidden(masks.at, masks.size, WIDTH, HEIGHT, 1, 2, 0, 90) == 0 && kg_hidden(masks.at, masks.size, WIDTH, HEIGHT, 1, 0, 0, 90) == 0, "clips that name no plane");
+        expect(kg_hidden(masks.at, masks.size, WIDTH, HEIGHT, 1, 2, 0, 90) == 0 &&
+               kg_hidden(masks.at, masks.size, WIDTH, HEIGHT, 1, 0, 0, 90) == 0, "clips that name no plane");
         expect(kg_hidden(masks.at, masks.size, WIDTH, HEIGHT, 1, 1, WIDTH, 0) == KG_POINT_OUTSIDE, "a point outside");
         expect(kg_stamp(pixels.at, pixels.size, masks.at, masks.size, actor.at, actor.size, WIDTH, HEIGHT, 1, 8, 8, -4, 84, 1) == KG_ACCEPTED, "the stamp");
-        expect(pixels.at[84 * WIDTH] == 9 && pixels.at[87 * WIDTH + 3] == 9 && pixels.at[87 * WIDTH + 4] != 9 && pixels.at[88 * WIDTH] != 9, "the stamped frame");
-        expect(kg_stamp(pixels.at, pixels.size, masks.at, masks.size, actor.at, actor.size, WIDTH, HEIGHT, 1, 8, 8, INT32_MIN, INT32_MAX, 1) == KG_ACCEPTED, "a stamp far away");
-        expect(kg_stamp(pixels.at, pixels.size, masks.at, masks.size, actor.at, actor.size, WIDTH, HEIGHT, 1, 129, 8, 0, 0, 1) == KG_OUT_OF_SIZE, "a picture 129 wide");
+        expect(pixels.at[84 * WIDTH] == 9 && pixels.at[87 * WIDTH + 3] == 9 && pixels.at[87 * WIDTH + 4] != 9 &&
+               pixels.at[88 * WIDTH] != 9, "the stamped frame");
+        expect(kg_stamp(pixels.at, pixels.size, masks.at, masks.size, actor.at, actor.size, WIDTH, HEIGHT, 1, 8, 8, INT32_MIN, INT32_MAX, 1) == KG_ACCEPTED,
+               "a stamp far away");
+        expect(kg_stamp(pixels.at, pixels.size, masks.at, masks.size, actor.at, actor.size, WIDTH, HEIGHT, 1, 129, 8, 0, 0, 1) == KG_OUT_OF_SIZE,
+               "a picture 129 wide");
         give_back(actor);
     }
     give_back(pixels);
