@@ -29,7 +29,7 @@ struct call {
 
 /* The largest room and its surfaces: with these nothing is allocated. One byte more than a room may have, so that a longer file is
  * refused by the library and not cut. */
-static uint8_t room[1048576 + 1], session[KG_SESSION_SIZE], pixels[1024 * 200], masks[4 * 128 * 200], picture[3 * sizeof pixels];
+static uint8_t room[KG_MAX_ROOM + 1], session[KG_SESSION_SIZE], pixels[KG_MAX_PIXELS], masks[KG_MAX_MASKS], picture[3 * sizeof pixels];
 static uint8_t palette[PALETTE_SIZE + 1];
 static size_t room_size, pixels_size, masks_size;
 static uint32_t width, height, planes, objects;
@@ -107,12 +107,12 @@ static void load(const char *path)
     room_size = read_file(path, room, sizeof room);
     number = kg_record(room, room_size, record, sizeof record);
     if (number == KG_ACCEPTED) {
-        width = kg_u16(record);
-        height = kg_u16(record + 2);
-        planes = kg_u16(record + 4);
-        objects = kg_u16(record + 6);
-        pixels_size = (size_t)width * height;
-        masks_size = (size_t)planes * (width / 8) * height;
+        width = kg_u16(record + KG_RECORD_WIDTH);
+        height = kg_u16(record + KG_RECORD_HEIGHT);
+        planes = kg_u16(record + KG_RECORD_PLANES);
+        objects = kg_u16(record + KG_RECORD_OBJECTS);
+        pixels_size = kg_pixels_size(width, height);
+        masks_size = kg_masks_size(width, height, planes);
         number = kg_load(LENT);
     }
     if (number != KG_ACCEPTED) stop(1, "%s: refused %lu: %s", path, (unsigned long)number, kg_refusal_text(number));
@@ -182,30 +182,18 @@ static void dot(uint32_t x, uint32_t y)
     if (x < width && y < height) memcpy(picture + 3 * ((size_t)y * width + x), yellow, 3);
 }
 
-/* The object's newest strip position in the history (docs/LAYOUTS.md, "Session"): its bytes a and b, NULL where it has none. */
-static const uint8_t *newest_position(uint32_t object)
-{
-    uint32_t i;
-    for (i = session[0]; i > 0; i--) {
-        const uint8_t *step = session + 2 + 5 * (i - 1);
-        if (step[0] >= DRAW_AT && step[1] == object) return step + 3;
-    }
-    return NULL;
-}
-
 /* The object's box as the point question has it: CDHD's sizes, at the newest strip position, else at CDHD's place. All are in strips of 8
  * pixels, and the box may pass the room's edges. */
 static void outline(uint32_t object)
 {
     uint8_t header[KG_HEADER_SIZE];
-    const uint8_t *place = newest_position(object);
+    struct kg_position position = kg_session_position(session, object);
     uint32_t left, top, wide, high, i;
     if (kg_header(room, room_size, header, sizeof header, object) != KG_ACCEPTED) return;
-    if (place == NULL) place = header + 2;
-    left = 8u * place[0];
-    top = 8u * place[1];
-    wide = 8u * header[4];
-    high = 8u * header[5];
+    left = 8 * (position.known ? position.a : header[KG_HEADER_X]);
+    top = 8 * (position.known ? position.b : header[KG_HEADER_Y]);
+    wide = 8u * header[KG_HEADER_WIDTH];
+    high = 8u * header[KG_HEADER_HEIGHT];
     if (wide == 0 || high == 0) return;
     for (i = 0; i < wide; i++) {
         dot(left + i, top);
