@@ -1,6 +1,6 @@
 # shellcheck shell=bash disable=SC2154 # the variables are the program's
-# What ./list, ./play, ./show and tools/calls share. Each sets `name`, its name in messages, and `self`, its own file, then reads this one.
-# The comment at the head of `self` is its help: its first line is the usage.
+# What ./list, ./play, ./show and tools/calls share. Each sets `name`, its name in messages, `self`, its own file, and, but for tools/calls,
+# `top`, the repository's folder, then reads this file. The comment at the head of `self` is its help: the first line is the usage.
 
 stop() { printf '%s: %s\n' "$name" "$2" >&2; exit "$1"; } # STATUS TEXT
 help() { sed -n -e '1d' -e '/^#/!q' -e 's/^# \{0,1\}//p' "$self"; }

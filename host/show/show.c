@@ -103,6 +103,7 @@ static void take_palette(const char *path)
 static void load(const char *path)
 {
     uint8_t record[KG_RECORD_SIZE];
+    const char *text;
     uint32_t number;
     room_size = read_file(path, room, sizeof room);
     number = kg_record(room, room_size, record, sizeof record);
@@ -115,7 +116,8 @@ static void load(const char *path)
         masks_size = kg_masks_size(width, height, planes);
         number = kg_load(LENT);
     }
-    if (number != KG_ACCEPTED) stop(1, "%s: refused %lu: %s", path, (unsigned long)number, kg_refusal_text(number));
+    text = room_size > KG_MAX_ROOM ? "longer than 1,048,576 bytes" : kg_refusal_text(number);
+    if (number != KG_ACCEPTED) stop(1, "%s: refused %lu: %s", path, (unsigned long)number, text);
 }
 
 static uint32_t u32(const uint8_t *at)
