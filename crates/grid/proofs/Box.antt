@@ -1,10 +1,10 @@
 -- Writes to a grid, cell by cell along a row and row by row down a box, as `upd`. Assumes nothing.
 use mathlib.Core.Path.{_≡_, sym, ap, _∙_}
 use mathlib.Core.Bool.{true, false, and-false, false≢true}
-use mathlib.Core.Logic.{by-cases}
+use mathlib.Core.Logic.{_⊎_, inl, inr, by-cases}
 use mathlib.Core.List.{List}
 use Prim.Native.Nat.{ℕ, _+_, _-_, _*_, _/_, _%_, _≤_, _<_}
-use native.Mathlib.Nat.{div-add-mod'}
+use native.Mathlib.Nat.{div-add-mod', mul-le-mul-right}
 use native.Mathlib.Omega.{arith}
 use native.Mathlib.Decide.{ℕ-discrete, decLt}
 use borrow.Author.Tests.{lt-ltb, le-ltb, le-leb, lt-leb, eq-eqb, ne-eqb}
@@ -188,6 +188,18 @@ pub column-write : (w x0 y0 r : ℕ) (f : ℕ → ℕ → ℕ → ℕ) (l px : L
     → set px j v ≡ upd (boxed w x0 y0 1 (r + 1) f) l
 column-write w x0 y0 r f l px fits so j v e h =
     box-more w x0 y0 1 r f l px _ so (row-write w x0 (y0 + r) 0 (λ c p. f c r p) px px (omega arith) (row-none w x0 (y0 + r) (λ c p. f c r p) px) j v (omega arith) h)
+
+-- a row of a box ends within the buffer
+pub row-room : (n w h x0 y0 bw bh r : ℕ) → Inside n w h x0 y0 bw bh → r < bh → (y0 + r) * w + (x0 + bw) ≤ n
+row-room n w h x0 y0 bw bh r p hr = omega (arith, mul-le-mul-right w below)
+  where
+    below : y0 + r + 1 ≤ h
+    below = omega arith
+
+-- a box of no cells
+pub box-empty : (w x0 y0 bw bh : ℕ) (f : ℕ → ℕ → ℕ → ℕ) (l : List ℕ) → (bw ≡ 0) ⊎ (bh ≡ 0) → l ≡ upd (boxed w x0 y0 bw bh f) l
+box-empty w x0 y0 bw bh f l (inl e) = rw e (box-thin w x0 y0 bh f l)
+box-empty w x0 y0 bw bh f l (inr e) = rw e (box-none w x0 y0 bw f l)
 
 -- a box below a box of the same width
 module _ (w x0 y0 y1 bw n m : ℕ) (f g : ℕ → ℕ → ℕ → ℕ) (below : y1 ≡ y0 + n) (agree : (c r o : ℕ) → c < bw → r < m → g c r o ≡ f c (n + r) o) (i o : ℕ) where
