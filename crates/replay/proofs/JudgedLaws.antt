@@ -76,6 +76,10 @@ module _ (objects verdicts : List ℕ) (size : Size) (n : ℕ) (few : n < 64) (s
 
 -- ---- the parts of a draw, and a hide
 
+-- a place is allowed or not, as a test of it has said
+pub allowed-is : (room : Room) (e : Entry) (b t : Bool) → b ≡ allowed room e → b ≡ t → allowed room e ≡ t
+allowed-is room e b t p q = sym p ∙ q
+
 module _ (room : Room) (r : Shown) (e : Entry) (es : List Entry) where
   pub draw-off : allowed room e ≡ false → (k : ℕ) → r .refusal ≡ 12 → planOf r ≡ drawnOn room k e es
   draw-off h k f = rw h (plan-no r 12 f (λ q. omega arith))

@@ -19,7 +19,7 @@ use Rattle.scene.proofs.Reading.{right-means}
 use Rattle.stored.specs.Bytes.{All, Mark, mark, placed, allPlaced, isMark, sameMarks, marksFrom, stepsOf, sessionOf}
 use Rattle.stored.proofs.Lists.{all-append, all-without}
 use Rattle.replay.proofs.Lists.{append-nil}
-use Rattle.stored.proofs.BytesLaws.{marksOf}
+use Rattle.stored.proofs.BytesLaws.{marksOf, and-true}
 
 pub both : (a b : Bool) → (a && b) ≡ true → (a ≡ true) × (b ≡ true)
 both true b e = (refl, e)
@@ -64,10 +64,6 @@ module _ (room : Room) where
   all-stand (st ∷ h) = applied-stands (replay room (bare room) h) st (all-stand h)
 
 -- the marks of entries that stand at their objects' last places say the whole entries
-and-yes : (b : Bool) → b ≡ (b && true)
-and-yes true = refl
-and-yes false = refl
-
 mark-entry : (last : ℕ → Spot) (o s : ℕ) (e : Entry) → Standing last e → isMark (mark o s) e ≡ sameEntry (placed last (mark o s)) e
 unfolding sameEntry
 mark-entry last o s e a = go (eqb o (e .object)) refl
@@ -78,7 +74,7 @@ mark-entry last o s e a = go (eqb o (e .object)) refl
     go true q =
         let r = eqb-true o (e .object) q in
         rw (eq-eqb (last o .x) (e .x) (ap (λ (k : ℕ). last k .x) r ∙ sym (a .0)), eq-eqb (last o .y) (e .y) (ap (λ (k : ℕ). last k .y) r ∙ sym (a .1)))
-        (and-yes (eqb s (e .state)) ∙ and-yes (eqb s (e .state) && true))
+        (and-true (eqb s (e .state)) ∙ and-true (eqb s (e .state) && true))
 
 same-placed : (last : ℕ → Spot) (ms : List Mark) (es : List Entry) → All (Standing last) es → sameMarks ms es ≡ sameList (allPlaced last ms) es
 unfolding sameMarks sameList allPlaced

@@ -2,7 +2,8 @@
 ghost use mathlib.Core.Path.{_≡_};
 ghost use Prim.Native.Nat.{_+_, _≤_, _<_};
 ghost use lib.ListN.{length, getD};
-ghost use Rattle.stored.specs.Bytes.{stepAt, putStep, Small, putNewest, dropNewest, putShown, marksFrom, sameMarks, isMark, mark, All, SmallEntry, entries};
+ghost use Rattle.stored.specs.Bytes.{stepAt, putStep, Small, putNewest, dropNewest, putShown, marksFrom, sameMarks, isMark, mark};
+ghost use Rattle.stored.specs.Bytes.{All, SmallEntry, entries};
 use crate::Shown;
 use scene::Entry;
 use scene::Place;

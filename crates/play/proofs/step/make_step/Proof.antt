@@ -54,7 +54,7 @@ returns c =
     let v = c .before .before .before .before .before .before .before .before .before .judge .last .1 .1 .1 .1 .1 .0 in
     let p = rw (c .before .before .before .before .before .before .before .size-of .ensures) at (c .before .before .before .before .settled .ensures .0) in
     let q = rw (c .before .before .before .before .before .before .before .size-of .ensures) at (c .before .plan-on .ensures .0) in
-    let f = c .if1 .taken in (
+    let f : c .before .plan-on .result .refusal ≡ 0 → ⊥ = λ z. omega (arith, c .if1 .taken) in (
       make-number (now (a .room)) (a .r) (now (a .table)) v l (now (a .pixels)) (now (a .masks)) (a .step) (c .before .before .before .before .before .before .before .before .before .before .before .before .before .before .before .before .before .pre .0 .2) (c .before .before .before .before .before .before .before .before .before .judge .ensures) (c .before .before .before .before .settled .result) (c .before .plan-on .result) p q,
       (
         refused-session (now (a .room)) (a .r) (now (a .table)) v l (now (a .pixels)) (now (a .masks)) (a .step) (c .before .before .before .before .before .before .before .before .before .before .before .before .before .before .before .before .before .pre .0 .2) (c .before .before .before .before .before .before .before .before .before .judge .ensures) (c .before .before .before .before .settled .result) (c .before .plan-on .result) p q f,

@@ -2,9 +2,10 @@
 use Rattle.stored.specs.Bytes.{entries}
 use Rattle.replay.specs.Tables.{tabled}
 use Rattle.replay.proofs.TablesLaws.{allowed-bounds}
-use Rattle.replay.proofs.JudgedLaws.{draw-off, draw-fault, draw-done}
+use Rattle.replay.proofs.JudgedLaws.{allowed-is, draw-off, draw-fault, draw-done}
 use mathlib.Core.List.{[]}
-use mathlib.Core.Path.{sym, _∙_}
+use mathlib.Core.Bool.{true, false}
+use mathlib.Core.Path.{_∙_}
 use native.Mathlib.Omega.{arith}
 use borrow.Author.Needs.{needs}
 use Rattle.replay.proofs.history.drawn.Statement.{statement}
@@ -19,18 +20,18 @@ refused-requires c κs = search needs
 returns : tie.Need-returns
 returns c =
     let A = c .before .before .before .before .before .args in
-    (λ v. draw-fault (tabled (A .objects .now) v (A .size)) (c .refused .result) (record { object = A .object; state = A .state; x = A .at .x; y = A .at .y }) (entries (A .s)) (sym (c .before .before .before .fits2 .ensures v (A .state)) ∙ c .before .before .if1 .taken) (A .refusal) (c .before .if2 .taken) (c .refused .ensures .0), omega (arith, c .refused .ensures .1))
+    (λ v. draw-fault (tabled (A .objects .now) v (A .size)) (c .refused .result) (record { object = A .object; state = A .state; x = A .at .x; y = A .at .y }) (entries (A .s)) (allowed-is (tabled (A .objects .now) v (A .size)) (record { object = A .object; state = A .state; x = A .at .x; y = A .at .y }) _ true (c .before .before .before .fits2 .ensures v (A .state)) (c .before .before .if1 .taken)) (A .refusal) (λ z. omega (arith, c .before .if2 .taken)) (c .refused .ensures .0), omega (arith, c .refused .ensures .1))
 
 cast-t12 : tie.Need-cast-t12
 cast-t12 c =
     let A = c .before .before .before .before .before .args in
-    let b = allowed-bounds (A .objects .now) [] (A .size) (record { object = A .object; state = A .state; x = A .at .x; y = A .at .y }) (c .before .before .before .before .before .pre .1) (sym (c .before .before .before .fits2 .ensures [] (A .state)) ∙ c .before .before .if1 .taken) in
+    let b = allowed-bounds (A .objects .now) [] (A .size) (record { object = A .object; state = A .state; x = A .at .x; y = A .at .y }) (c .before .before .before .before .before .pre .1) (allowed-is (tabled (A .objects .now) [] (A .size)) (record { object = A .object; state = A .state; x = A .at .x; y = A .at .y }) _ true (c .before .before .before .fits2 .ensures [] (A .state)) (c .before .before .if1 .taken)) in
     omega arith
 
 cast-t13 : tie.Need-cast-t13
 cast-t13 c =
     let A = c .before .before .before .before .before .before .args in
-    let b = allowed-bounds (A .objects .now) [] (A .size) (record { object = A .object; state = A .state; x = A .at .x; y = A .at .y }) (c .before .before .before .before .before .before .pre .1) (sym (c .before .before .before .before .fits2 .ensures [] (A .state)) ∙ c .before .before .before .if1 .taken) in
+    let b = allowed-bounds (A .objects .now) [] (A .size) (record { object = A .object; state = A .state; x = A .at .x; y = A .at .y }) (c .before .before .before .before .before .before .pre .1) (allowed-is (tabled (A .objects .now) [] (A .size)) (record { object = A .object; state = A .state; x = A .at .x; y = A .at .y }) _ true (c .before .before .before .before .fits2 .ensures [] (A .state)) (c .before .before .before .if1 .taken)) in
     omega arith
 
 sift-requires : tie.Need-sift-requires
@@ -42,7 +43,7 @@ push-if-requires c κs = search needs
 returns-2 : tie.Need-returns-2
 returns-2 c =
     let A = c .before .before .before .before .before .before .before .before .args in
-    (λ v. draw-done (tabled (A .objects .now) v (A .size)) (c .push-if .result) (record { object = A .object; state = A .state; x = A .at .x; y = A .at .y }) (entries (A .s)) (sym (c .before .before .before .before .before .before .fits2 .ensures v (A .state)) ∙ c .before .before .before .before .before .if1 .taken) (A .refusal) (c .before .before .before .before .if2 .left) (c .push-if .ensures .2 ∙ c .before .sift .ensures .2) (entries (c .before .sift .result)) (c .push-if .ensures .0) (c .before .sift .ensures .0 v), omega (arith, c .push-if .ensures .1, c .before .sift .ensures .1))
+    (λ v. draw-done (tabled (A .objects .now) v (A .size)) (c .push-if .result) (record { object = A .object; state = A .state; x = A .at .x; y = A .at .y }) (entries (A .s)) (allowed-is (tabled (A .objects .now) v (A .size)) (record { object = A .object; state = A .state; x = A .at .x; y = A .at .y }) _ true (c .before .before .before .before .before .before .fits2 .ensures v (A .state)) (c .before .before .before .before .before .if1 .taken)) (A .refusal) (c .before .before .before .before .if2 .left) (c .push-if .ensures .2 ∙ c .before .sift .ensures .2) (entries (c .before .sift .result)) (c .push-if .ensures .0) (c .before .sift .ensures .0 v), omega (arith, c .push-if .ensures .1, c .before .sift .ensures .1))
 
 refused-requires-2 : tie.Need-refused-requires-2
 refused-requires-2 c κs = search needs
@@ -50,7 +51,7 @@ refused-requires-2 c κs = search needs
 returns-3 : tie.Need-returns-3
 returns-3 c =
     let A = c .before .before .before .before .args in
-    (λ v. draw-off (tabled (A .objects .now) v (A .size)) (c .refused2 .result) (record { object = A .object; state = A .state; x = A .at .x; y = A .at .y }) (entries (A .s)) (sym (c .before .before .fits2 .ensures v (A .state)) ∙ c .before .if1 .left) (A .refusal) (c .refused2 .ensures .0), omega (arith, c .refused2 .ensures .1))
+    (λ v. draw-off (tabled (A .objects .now) v (A .size)) (c .refused2 .result) (record { object = A .object; state = A .state; x = A .at .x; y = A .at .y }) (entries (A .s)) (allowed-is (tabled (A .objects .now) v (A .size)) (record { object = A .object; state = A .state; x = A .at .x; y = A .at .y }) _ false (c .before .before .fits2 .ensures v (A .state)) (c .before .if1 .left)) (A .refusal) (c .refused2 .ensures .0), omega (arith, c .refused2 .ensures .1))
 
 pub drawn-spec : {M : Type 1} → statement M
 drawn-spec =
