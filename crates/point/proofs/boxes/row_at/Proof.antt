@@ -1,3 +1,6 @@
+use native.Mathlib.Omega.{arith}
+use Prim.Native.Nat.{_*_}
+use mathlib.Core.List.{[], _∷_}
 use borrow.Author.Needs.{needs}
 use Rattle.point.proofs.boxes.row_at.Statement.{statement}
 use Rattle.point.proofs.boxes.row_at.Tie as tie
@@ -19,7 +22,7 @@ number-requires c κs = search needs
 
 -- src/boxes.rt:28:13
 mul-x : tie.Need-mul-x
-mul-x c = search needs
+mul-x c = omega (arith, c .number .ensures .1)
 
 -- src/boxes.rt:29:29
 add-number-2 : tie.Need-add-number-2
@@ -35,7 +38,7 @@ number-requires-2 c κs = search needs
 
 -- src/boxes.rt:29:13
 mul-y : tie.Need-mul-y
-mul-y c = search needs
+mul-y c = omega (arith, c .number2 .ensures .1)
 
 -- src/boxes.rt:30:33
 add-number-3 : tie.Need-add-number-3
@@ -51,7 +54,7 @@ number-requires-3 c κs = search needs
 
 -- src/boxes.rt:30:17
 mul-width : tie.Need-mul-width
-mul-width c = search needs
+mul-width c = omega (arith, c .number3 .ensures .1)
 
 -- src/boxes.rt:31:34
 add-number-4 : tie.Need-add-number-4
@@ -67,7 +70,7 @@ number-requires-4 c κs = search needs
 
 -- src/boxes.rt:31:18
 mul-height : tie.Need-mul-height
-mul-height c = search needs
+mul-height c = omega (arith, c .number4 .ensures .1)
 
 -- src/boxes.rt:32:29
 add-number-5 : tie.Need-add-number-5
@@ -95,7 +98,14 @@ number-requires-6 c κs = search needs
 
 -- src/boxes.rt:24:1
 returns : tie.Need-returns
-returns c = rw (← c .before .before .before .before .before .before .before .before .before .before .number .ensures .0, ← c .before .before .before .before .before .before .before .before .number2 .ensures .0, ← c .before .before .before .before .before .before .number3 .ensures .0, ← c .before .before .before .before .number4 .ensures .0, ← c .before .before .number5 .ensures .0, ← c .number6 .ensures .0)
+returns c =
+    let x = c .before .before .before .before .before .before .before .before .before .before .number .ensures .0 in
+    let y = c .before .before .before .before .before .before .before .before .number2 .ensures .0 in
+    let width = c .before .before .before .before .before .before .number3 .ensures .0 in
+    let height = c .before .before .before .before .number4 .ensures .0 in
+    let flags = c .before .before .number5 .ensures .0 in
+    let parent = c .number6 .ensures .0 in
+    λ i. 0 ∷ 8 * x i ∷ 8 * y i ∷ 8 * width i ∷ 8 * height i ∷ flags i ∷ parent i ∷ 0 ∷ []
 
 pub row-at-spec : {M : Type 1} → statement M
 row-at-spec =
