@@ -1,5 +1,6 @@
 -- Computed examples: the starts of a payload with five records.
 use mathlib.Core.Path.{_≡_, refl}
+use mathlib.Core.Bool.{true, false}
 use mathlib.Core.List.{List, [], _∷_}
 use Prim.Native.Nat.{ℕ}
 use lib.ListN.{replicate}
@@ -51,3 +52,13 @@ idling = refl
 wrong : startNumber payload bent 0 5 30 0 0 ∷ startNumber payload bent 0 5 30 0 1 ∷ [] ≡ 15 ∷ 15 ∷ []
 unfolding bent lent bytes payload commands startNumber numbersRight limbsRight all limbRight limbAt offsetRight recordRight entryOf entryPlace entryAt defined
 wrong = refl
+
+-- a start that is refused and one of an animation that is not defined leave the bytes
+keeping : startBytes payload bent 0 5 30 0 0 ∷ startBytes payload still 0 5 30 0 1 ∷ [] ≡ bent ∷ still ∷ []
+unfolding bent still lent bytes payload commands startBytes eachLimb putLimb begunLimb startNumber numbersRight limbsRight all limbRight limbAt offsetRight recordRight entryOf entryPlace entryAt defined
+keeping = refl
+
+-- stored offsets: 0 and FFFF stand for no record, 1 and 5 are wrong, and 6 is the record at payload byte 0
+offsets : offsetRight payload 0 5 ∷ offsetRight payload 65535 5 ∷ offsetRight payload 1 5 ∷ offsetRight payload 5 5 ∷ offsetRight payload 6 5 ∷ [] ≡ true ∷ true ∷ false ∷ false ∷ true ∷ []
+unfolding payload commands offsetRight recordRight all entryOf entryPlace entryAt
+offsets = refl
