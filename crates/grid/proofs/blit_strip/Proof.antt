@@ -1,4 +1,4 @@
--- `surface::blit_strip` meets its contract. Assumes nothing.
+-- `grid::blit_strip` meets its contract. Assumes nothing.
 use mathlib.Core.Path.{_≡_, refl, _∙_}
 use Prim.Native.Nat.{_+_, _-_, _*_, _≤_, _<_}
 use native.Mathlib.Omega.{arith}

@@ -1,4 +1,4 @@
--- `surface::merge` meets its contract. Assumes nothing.
+-- `grid::merge` meets its contract. Assumes nothing.
 use borrow.Author.Needs.{needs}
 use Rattle.grid.proofs.merge.Statement.{statement}
 use Rattle.grid.proofs.merge.Tie as tie

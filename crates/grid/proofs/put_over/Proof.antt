@@ -1,4 +1,4 @@
--- `surface::put_over` meets its contract. Assumes nothing.
+-- `grid::put_over` meets its contract. Assumes nothing.
 use borrow.Author.Needs.{needs}
 use borrow.Author.Tests.{eq-eqb, ne-eqb}
 use Rattle.grid.proofs.put_over.Statement.{statement}

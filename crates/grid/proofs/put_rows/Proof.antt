@@ -1,4 +1,4 @@
--- `surface::put_rows` meets its contract. Assumes nothing.
+-- `grid::put_rows` meets its contract. Assumes nothing.
 use mathlib.Core.Path.{_≡_, refl}
 use Prim.Native.Nat.{_-_, _*_, _≤_}
 use native.Mathlib.Omega.{arith}
