@@ -32,8 +32,7 @@ placed-size vertical h xs = length-upTo (λ j. getD xs (sourceOf vertical h j) 0
 
 raw-size : (h : ℕ) (t : List ℕ) → Sized h (rawOf h t)
 unfolding rawOf
-raw-size h [] = tt
-raw-size h (c ∷ t) = go (ltb (length t) (8 * h))
+raw-size h t = go (ltb (length t) (8 * h))
   where
     go : (short : Bool) → Sized h (unless short (refusal 7) (picture false (placed false h t)))
     go true = tt

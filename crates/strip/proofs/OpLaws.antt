@@ -12,7 +12,7 @@ use lib.ListN.{drop}
 use lib.Pow.{shr-shr}
 use Rattle.bits.specs.Bits.{lowBits, bitsOf, short, got, pull, rest, moved}
 use Rattle.bits.proofs.BitLaws.{length-low, pull-low, pull-short}
-use Rattle.strip.specs.Strip.{plus, minus, refuse, go, choose, indexOp, walkOp, runOp, changeOp, opOf}
+use Rattle.strip.specs.Strip.{plus, minus, refuse, go, choose, indexOp, walkOp, runPixels, runOp, changeOp, opOf}
 use Rattle.strip.specs.declared.State.{State}
 use Rattle.strip.specs.Place.{opLength, runAhead, LeadsTo}
 
@@ -71,7 +71,7 @@ module _ (w c s b v : ℕ) (t : List Bool) (odd : v % 2 ≡ 1) (more : v / 2 % 2
   pub op-change : 5 ≤ b → (v / 4 % 8 ≡ 4 → ⊥) → opOf true w c s (lowBits b v ++ t) ≡ go 0 (minus (plus c (v / 4 % 8)) 4) s (after 5 b v t)
   op-change h e = three h ∙ rw (ne-eqb (v / 4 % 8) 4 e)
 
-  pub op-run : 13 ≤ b → v / 4 % 8 ≡ 4 → opOf true w c s (lowBits b v ++ t) ≡ go (v / 2 ^ 5 % 2 ^ 8) c s (after 13 b v t)
+  pub op-run : 13 ≤ b → v / 4 % 8 ≡ 4 → opOf true w c s (lowBits b v ++ t) ≡ go (runPixels (v / 2 ^ 5 % 2 ^ 8) - 1) c s (after 13 b v t)
   op-run h e =
       let k : b - 5 - 8 ≡ b - 13 = omega arith in
       three (omega arith)

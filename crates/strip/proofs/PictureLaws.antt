@@ -89,27 +89,19 @@ told-drew n x out e h = subst (λ q. Drew n x out q) e h
 pub told-width : {r r′ : Kind} → r ≡ r′ → Width r → Width r′
 told-width e h = subst (λ q. Width q) e h
 
--- the rest of a list from 2 on, as the part of a slice has it
-pub part-two : (s : List ℕ) → take (length s - 2) (drop 2 s) ≡ drop 2 s
-part-two s = take-all _ _ (le-of-eq (length-drop 2 s))
+-- the rest of a list from 1 on, as the part of a slice has it
+pub part-one : (s : List ℕ) → take (length s - 1) (drop 1 s) ≡ drop 1 s
+part-one s = take-all _ _ (le-of-eq (length-drop 1 s))
 
-pub raw-none : (h : ℕ) (s : List ℕ) → length s < 2 → rawOf h (drop 1 s) ≡ refusal 7
+pub raw-short : (h : ℕ) (s : List ℕ) → 1 ≤ length s → length s - 1 < 8 * h → rawOf h (drop 1 s) ≡ refusal 7
 unfolding rawOf
-raw-none h [] lt = refl
-raw-none h (a ∷ []) lt = refl
-raw-none h (a ∷ b ∷ t) lt = absurd (omega arith)
+raw-short h [] le lt = absurd (omega arith)
+raw-short h (a ∷ t) le lt = rw (lt-ltb (length t) (8 * h) (omega arith))
 
-pub raw-short : (h : ℕ) (s : List ℕ) → 2 ≤ length s → length s - 2 < 8 * h → rawOf h (drop 1 s) ≡ refusal 7
-unfolding rawOf
-raw-short h [] le lt = refl
-raw-short h (a ∷ []) le lt = refl
-raw-short h (a ∷ b ∷ t) le lt = rw (lt-ltb (length t) (8 * h) (omega arith))
-
-pub raw-full : (h : ℕ) (s : List ℕ) → 2 ≤ length s → 8 * h ≤ length s - 2 → rawOf h (drop 1 s) ≡ picture false (placed false h (drop 2 s))
+pub raw-full : (h : ℕ) (s : List ℕ) → 1 ≤ length s → 8 * h ≤ length s - 1 → rawOf h (drop 1 s) ≡ picture false (placed false h (drop 1 s))
 unfolding rawOf
 raw-full h [] le lt = absurd (omega arith)
-raw-full h (a ∷ []) le lt = absurd (omega arith)
-raw-full h (a ∷ b ∷ t) le lt = rw (le-ltb (length t) (8 * h) (omega arith))
+raw-full h (a ∷ t) le lt = rw (le-ltb (length t) (8 * h) (omega arith))
 
 module _ (second vertical clear : Bool) (w h : ℕ) where
   pub coded-none : (s : List ℕ) → length s < 2 → codedOf second vertical clear w h (drop 1 s) ≡ refusal 7

@@ -19,7 +19,7 @@ use Rattle.bits.proofs.CursorLaws.{moved-held}
 use Rattle.strip.specs.declared.State.{State}
 use Rattle.strip.specs.declared.Next.{Next}
 use Rattle.strip.specs.declared.Next.the-variants.{Go, Refuse}
-use Rattle.strip.specs.Strip.{Move, refuse, go, opOf, Strip, refused, pixels, glue, decode}
+use Rattle.strip.specs.Strip.{Move, refuse, go, runPixels, opOf, Strip, refused, pixels, glue, decode}
 use Rattle.strip.specs.Place.{opLength, runAhead, ahead, Gives, Stepped, LeadsTo, keptBy, Painted, Paints, Advances, Turned}
 use Rattle.strip.proofs.StripLaws.{glue-none, glue-glue, decode-owed, decode-op, decode-past, decode-refuse}
 use Rattle.strip.proofs.OpLaws.{op-keep, op-run, op-none, op-short, run-short}
@@ -141,7 +141,7 @@ module _ (w total : ℕ) (s : List ℕ) (st : State) (left : st .i < total) (is-
       let e : v / 4 ≡ 8 * q + 4 = omega (arith, whole) in
       omega (arith, e)
 
-  runs : 13 ≤ b → next true w total s st ≡ go (v / 2 ^ 5 % 2 ^ 8) (st .colour) (st .step) (rest s (moved 13 (st .cur)))
+  runs : 13 ≤ b → next true w total s st ≡ go (runPixels (v / 2 ^ 5 % 2 ^ 8) - 1) (st .colour) (st .step) (rest s (moved 13 (st .cur)))
   unfolding rest
   runs h = op-run w (st .colour) (st .step) b v (bitsOf (drop (st .cur .at) s)) first-set second-set h four
 
@@ -151,23 +151,26 @@ module _ (w total : ℕ) (s : List ℕ) (st : State) (left : st .i < total) (is-
       (λ q. refuses true w total s st 7 left
       (all-in-hand true w total s st left full (omega arith) ∙ run-short w (st .colour) (st .step) b v first-set second-set h (omega (arith, q)) four))
 
-  module _ (one two : Cursor) (n : ℕ) (e1 : one ≡ moved 5 (st .cur)) (e2 : two ≡ moved 8 one) (en : n ≡ one .hand % 2 ^ 8) (enough : 13 ≤ b) where
-    number : v / 2 ^ 5 % 2 ^ 8 ≡ n
-    number = sym (en ∙ ap (λ (c : Cursor). c .hand % 2 ^ 8) e1)
+  module _ (one two : Cursor) (m n : ℕ) (e1 : one ≡ moved 5 (st .cur)) (e2 : two ≡ moved 8 one) (em : m ≡ one .hand % 2 ^ 8) (en : n ≡ runPixels m)
+      (some : 1 ≤ n) (enough : 13 ≤ b) where
+    owed : runPixels (v / 2 ^ 5 % 2 ^ 8) - 1 ≡ n - 1
+    owed = sym (ap (λ (k : ℕ). k - 1) (en ∙ ap runPixels (em ∙ ap (λ (c : Cursor). c .hand % 2 ^ 8) e1)))
 
     after : two ≡ moved 13 (st .cur)
     after = e2 ∙ ap (moved 8) e1 ∙ moved-moved 5 8 (st .cur)
 
-    pub run-past-stepped : total < st .i + 1 + n → ahead true w total s st ≡ refused 8
-    run-past-stepped h = runs-past true w total s st (v / 2 ^ 5 % 2 ^ 8) (st .colour) (st .step) (rest s (moved 13 (st .cur))) left (runs enough) (rw number h)
+    pub run-past-stepped : total < st .i + n → ahead true w total s st ≡ refused 8
+    run-past-stepped h =
+        let l = rest s (moved 13 (st .cur)) in
+        runs-past true w total s st (runPixels (v / 2 ^ 5 % 2 ^ 8) - 1) (st .colour) (st .step) l left (runs enough) (rw owed (omega arith))
 
-    pub run-stepped : Held s (st .cur) → st .i + 1 + n ≤ total → Stepped true w total s st (Go (record { i = st .i + 1 + n; colour = st .colour; step = st .step; cur = two }))
+    pub run-stepped : Held s (st .cur) → st .i + n ≤ total → Stepped true w total s st (Go (record { i = st .i + n; colour = st .colour; step = st .step; cur = two }))
     run-stepped held h =
-        let to : State = record { i = st .i + 1 + n; colour = st .colour; step = st .step; cur = two } in (
+        let to : State = record { i = st .i + n; colour = st .colour; step = st .step; cur = two } in (
           omega arith,
           h,
           subst (Held s) (sym after) (moved-held s (st .cur) 13 enough held),
-          gives-op true w total s st to n (runs enough ∙ (λ i. go (number i) (st .colour) (st .step) (rest s (sym after i)))) refl h,
+          gives-op true w total s st to (n - 1) (runs enough ∙ (λ i. go (owed i) (st .colour) (st .step) (rest s (sym after i)))) (omega arith) (omega arith),
         )
 
 -- ---- painting

@@ -72,10 +72,9 @@ abbrev pub unless : Bool → Picture → Picture → Picture
 unless true a b = a
 unless false a b = b
 
--- raw, after the code: the colour byte, then 8h pixel bytes by rows
+-- raw: the 8h pixel bytes follow the code, by rows (change request 5)
 unfoldable pub rawOf : ℕ → List ℕ → Picture
-rawOf h [] = refusal 7
-rawOf h (c ∷ t) = unless (ltb (length t) (8 * h)) (refusal 7) (picture false (placed false h t))
+rawOf h t = unless (ltb (length t) (8 * h)) (refusal 7) (picture false (placed false h t))
 
 abbrev pub shown : Bool → Bool → ℕ → Strip → Picture
 shown vertical clear h (refused n) = refusal n

@@ -38,10 +38,15 @@ walkOp c s [] = refuse 7
 walkOp c s (false ∷ l) = go 0 (minus c s) s l
 walkOp c s (true ∷ l) = go 0 (minus c (minus 0 s)) (minus 0 s) l
 
--- second method, d = 4: an 8-bit n gives 1 + n pixels of the colour, so n are owed after the first
+-- a run of n gives n pixels, with 0 meaning 256 (change request 5)
+abbrev pub runPixels : ℕ → ℕ
+runPixels zero = 256
+runPixels (suc n) = suc n
+
+-- second method, d = 4: an 8-bit n gives a run of the colour, of which all pixels but the first are owed
 abbrev pub runOp : ℕ → ℕ → Pull → Move
 runOp c s short = refuse 7
-runOp c s (got n l) = go n c s l
+runOp c s (got n l) = go (runPixels n - 1) c s l
 
 -- second method: `11` and 3-bit d; d ≠ 4 gives colour + d − 4
 abbrev pub changeOp : ℕ → ℕ → Pull → Move

@@ -54,18 +54,15 @@ pub enum Answer {
     Refused(u8),
 }
 
-// Code 01: after the colour byte, 8h pixel bytes by rows.
+// Code 01: 8h pixel bytes by rows.
 fn raw(body: &[u8], h: usize, out: &mut [u8]) -> Answer
     requires { ⌜ (h ≤ 200) × (1 ≤ length (now body)) × (8 * h ≤ length (now out)) ⌝ }
     ensures { λ r. ⌜ Answered (rawOf h (drop 1 (now (body .entry)))) (now (out .entry)) (now (out .exit)) r ⌝ }
 {
-    if body.len() < 2 {
+    if body.len() - 1 < 8 * h {
         return Answer::Refused(7);
     }
-    if body.len() - 2 < 8 * h {
-        return Answer::Refused(7);
-    }
-    place(&body[2..], false, h, out);
+    place(&body[1..], false, h, out);
     Answer::Drawn { clear: false }
 }
 

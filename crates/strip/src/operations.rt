@@ -5,7 +5,7 @@ ghost use mathlib.Core.Bool.{true, false, cond};
 ghost use mathlib.Core.List.{List};
 ghost use Prim.Native.Nat.{ℕ, _+_, _%_, _≤_, _<_};
 ghost use Rattle.bits.specs.Bits.{Held, Full, rest, moved};
-ghost use Rattle.strip.specs.Strip.{plus, minus};
+ghost use Rattle.strip.specs.Strip.{plus, minus, runPixels};
 ghost use Rattle.strip.specs.Place.{opLength, runAhead, keptBy, LeadsTo, Stepped, Fits};
 use crate::Next;
 use crate::State;
@@ -130,6 +130,17 @@ fn one(second: bool, w: u32, total: usize, st: State) -> Next
     Next::Go(op(second, w, st))
 }
 
+// How many pixels a run of n gives: 0 means 256.
+fn run_pixels(n: u64) -> usize
+    requires { ⌜ n < 256 ⌝ }
+    ensures { λ r. ⌜ (r ≡ runPixels n) × (1 ≤ r) × (r ≤ 256) ⌝ }
+{
+    if n == 0 {
+        return 256;
+    }
+    n as usize
+}
+
 // A run, in a strip of `total` pixels: its number is looked for before its pixels are measured.
 fn run(total: usize, st: State) -> Next
     requires { ⌜ (st .cur .have ≤ 63) × (st .i < total) × (total ≤ 1600) ⌝ }
@@ -140,7 +151,7 @@ fn run(total: usize, st: State) -> Next
         return Next::Refuse(7);
     }
     let number = cur.take(5).next.take(8);
-    let to = st.i + 1 + number.bits as usize;
+    let to = st.i + run_pixels(number.bits);
     if total < to {
         return Next::Refuse(8);
     }

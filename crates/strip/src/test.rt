@@ -122,10 +122,7 @@ fn test_raw(body: &[u8], h: usize) -> Made
     requires { ⌜ (h ≤ 200) × (1 ≤ length (now body)) ⌝ }
     ensures { λ r. ⌜ r ≡ testOf (rawOf h (drop 1 (now (body .entry)))) ⌝ }
 {
-    if body.len() < 2 {
-        return Made::Refused(7);
-    }
-    if body.len() - 2 < 8 * h {
+    if body.len() - 1 < 8 * h {
         return Made::Refused(7);
     }
     Made::All

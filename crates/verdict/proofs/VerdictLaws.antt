@@ -122,8 +122,7 @@ low-unless false a b p q = q
 
 low-raw : (h : ℕ) (l : List ℕ) → LowPicture (rawOf h l)
 unfolding rawOf
-low-raw h [] = omega arith
-low-raw h (c ∷ t) = low-unless (ltb (length t) (8 * h)) (refusal 7) (picture false (placed false h t)) (omega arith) tt
+low-raw h t = low-unless (ltb (length t) (8 * h)) (refusal 7) (picture false (placed false h t)) (omega arith) tt
 
 low-shown : (vertical clear : Bool) (h : ℕ) (t : Strip) → LowStrip t → LowPicture (shown vertical clear h t)
 low-shown vertical clear h (refused n) p = p

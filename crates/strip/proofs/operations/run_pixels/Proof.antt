@@ -1,0 +1,22 @@
+use mathlib.Core.Path.{_≡_, refl}
+use Prim.Native.Nat.{ℕ, zero, suc}
+use native.Mathlib.Omega.{arith}
+use borrow.Author.Needs.{needs}
+use Rattle.strip.specs.Strip.{runPixels}
+use Rattle.strip.proofs.operations.run_pixels.Statement.{statement}
+use Rattle.strip.proofs.operations.run_pixels.Tie as tie
+use Rattle.strip.proofs.operations.run_pixels.Reads as reads
+use Rattle.strip.proofs.operations.run_pixels.Lts as lts
+
+pixels-some : (n : ℕ) → (n ≡ 0 → ⊥) → n ≡ runPixels n
+pixels-some zero some = absurd (some refl)
+pixels-some (suc n) some = refl
+
+returns : tie.Need-returns
+returns c = search needs
+
+returns-2 : tie.Need-returns-2
+returns-2 c = (pixels-some _ (c .if1 .left), omega arith, omega arith)
+
+pub run-pixels-spec : {M : Type 1} → statement M
+run-pixels-spec = tie.close (tie.spec returns returns-2)
