@@ -1,8 +1,9 @@
 #!/usr/bin/env python3
-"""Makes the sample room cellar.room and the rooms that the bench tests list, with what their listings must be.
+"""Makes the sample rooms cellar.room, raw.room and runs.room, the latter two with the pictures that they must give, and the rooms that the
+bench tests list, with what their listings must be.
 
-Run it from the repository's top folder: `python3 rooms/make.py`. The numbers that it expects are written down here from document 01,
-case by case; nothing of the Rattle code is asked.
+Run it from the repository's top folder: `python3 rooms/make.py`. The numbers that it expects are written down here from document 01 and
+change request 5, case by case; nothing of the Rattle code is asked.
 """
 import os
 import struct
@@ -28,6 +29,16 @@ def bits(*fields):
 def flat(h, colour):
     """A strip of one colour, code 1C."""
     return bytes([0x1C, colour]) + bits(*[(0, 1)] * (8 * h - 1))
+
+
+def raw(values):
+    """A strip of code 01: the pixels follow the code."""
+    return bytes([0x01, *values])
+
+
+def run(n, keeps=0):
+    """A strip of code 44 with a run of n after its first pixel, then so many keeps."""
+    return b"\x44\5" + bits((3, 2), (4, 3), (n, 8), *[(0, 1)] * keeps)
 
 
 def table(size, bodies, first=None):
@@ -95,13 +106,17 @@ def cases():
     yield "listed", LISTED, listed(16, 2, 1, [DOOR])
     yield "two_objects", room(rest=obcd(300, x=255, y=255, w=255, h=255, walk=(-32768, 32767)) + obcd(0)), listed(
         16, 2, 0, ["id 300 box 2040 2040 2040 2040 walk -32768 32767", "id 0 box 0 0 8 8 walk 0 0"])
-    yield "widest", room(1024, 200, 4, smap([b"\x01\x00" + bytes(1600)] * 10 + [flat(200, k) for k in range(118)])), listed(1024, 200, 4)
+    yield "widest", room(1024, 200, 4, smap([raw(bytes(1600))] * 10 + [flat(200, k) for k in range(118)])), listed(1024, 200, 4)
     yield "narrowest", room(8, 1), listed(8, 1, 0)
     yield "plane_missing", room(planes=4, picture=GOOD + plane(2, [None, b"\x82\xff"])), listed(16, 2, 4)
     yield "plane_all_zero", room(planes=1, picture=GOOD + plane(1, [None, None])), listed(16, 2, 1)
     yield "zero_counts", room(planes=1, picture=GOOD + plane(1, [b"\x00\x80\x33\x82\x01", None])), listed(16, 2, 1)
     yield "plane_above_n", room(planes=1, picture=GOOD + plane(2, [b"\xff", b"\xff"])), listed(16, 2, 1)
     yield "unused_bytes", room(picture=smap([flat(2, 5) + b"rest", flat(2, 9) + b"rest"])), listed(16, 2, 0)
+    yield "raw_strip", room(picture=smap([flat(2, 5), raw(range(16))])), listed(16, 2, 0)
+    yield "run_to_the_end", room(picture=smap([flat(2, 5), run(15)])), listed(16, 2, 0)
+    yield "run_of_1", room(8, 1, picture=smap([run(1, 6)])), listed(8, 1, 0)
+    yield "run_of_0", room(8, 33, picture=smap([run(0, 7)])), listed(8, 33, 0)
     yield "orphan_image", room(rest=block(b"OBIM", imhd(9))), listed(16, 2, 0)
     yield "other_tags", room(rest=block(b"XXXX", b"abc")), listed(16, 2, 0)
     yield "room_in_room", room(rest=block(b"ROOM", obcd(5))), listed(16, 2, 0)
@@ -160,13 +175,15 @@ def cases():
 
     yield "colour_missing", room(picture=smap([flat(2, 5), b"\x1c"])), 7
     yield "bits_missing", room(picture=smap([flat(2, 5), b"\x1c\5\0"])), 7
-    yield "raw_short", room(picture=smap([flat(2, 5), b"\1\0" + bytes(15)])), 7
+    yield "raw_short", room(picture=smap([flat(2, 5), raw(range(15))])), 7
+    yield "raw_code_alone", room(picture=smap([flat(2, 5), raw([])])), 7
     yield "leftmost_first", room(picture=smap([b"\x1c\5", b"\2"])), 7
     yield "rows_missing", room(planes=1, picture=GOOD + plane(1, [None, b"\2\1"])), 7
     yield "run_byte_missing", room(planes=1, picture=GOOD + plane(1, [None, b"\x82"])), 7
     yield "number_before_run", room(picture=smap([flat(2, 5), b"\x44\5" + bits((3, 2), (4, 3), (7, 3))])), 7
 
-    yield "run_passes_end", room(picture=smap([flat(2, 5), b"\x44\5" + bits((3, 2), (4, 3), (15, 8), (0, 8))])), 8
+    yield "run_passes_end", room(picture=smap([flat(2, 5), run(16)])), 8
+    yield "run_of_0_passes", room(8, 32, picture=smap([run(0, 8)])), 8
     yield "mask_run_passes", room(planes=1, picture=GOOD + plane(1, [None, b"\x83"])), 8
     yield "mask_literal_passes", room(planes=2, picture=GOOD + plane(1, [None, b"\2\1\1"]) + plane(2, [b"\1\1\2\1\1", None])), 8
 
@@ -209,6 +226,25 @@ def coded(values):
     return bytes([0x1C, values[0]]) + bits(*fields)
 
 
+def with_runs(values):
+    """One strip in code 44: a run of up to 255 where its 13 bits are fewer than those of keeps, else keeps, changes of -4 to 3, new indexes."""
+    colour, fields, i = values[0], [], 1
+    while i < len(values):
+        same = next((n for n, v in enumerate(values[i:i + 255]) if v != colour), len(values[i:i + 255]))
+        change = (values[i] - colour + 4) % 256
+        if same > 13:
+            fields += [(3, 2), (4, 3), (same, 8)]
+        elif same:
+            fields.append((0, 1))
+        elif change < 8:
+            fields += [(3, 2), (change, 3)]
+        else:
+            fields += [(1, 2), (values[i], 8)]
+        i += same if same > 13 else 1
+        colour = values[i - 1]
+    return bytes([0x44, values[0]]) + bits(*fields)
+
+
 def packed(rows):
     """The rows of one mask strip, as document 01's writing rule makes them; None where all are zero."""
     if not any(rows):
@@ -230,6 +266,29 @@ def packed(rows):
     return out
 
 
+def grain(x, y):
+    """A pixel of the picture whose strips are raw: a slope with a grain that no run is found in."""
+    return 16 + (x + y) // 2 + (x * 29 + y * 53) % 97
+
+
+def rings(x, y):
+    """A pixel of the picture whose strips have runs: rings around two points on a flat ground."""
+    for cx, cy, colour in ((20, 24, 150), (58, 40, 60)):
+        ring = ((x - cx) ** 2 + (y - cy) ** 2) // 72
+        if ring < 6:
+            return colour + 3 * ring if ring % 2 else colour + 40 + ring
+    return 12
+
+
+def write_strips_room(name, pixel, body):
+    """A room of a background alone, and the picture that ./show must make of it: without a palette, colour n is grey n."""
+    w, h = 80, 56
+    pixels = [[pixel(x, y) for x in range(w)] for y in range(h)]
+    strips = [body([v for row in pixels for v in row[x:x + 8]]) for x in range(0, w, 8)]
+    open("rooms/%s.room" % name, "wb").write(room(w, h, picture=smap(strips)))
+    open("rooms/%s.ppm" % name, "wb").write(b"P6\n%d %d\n255\n" % (w, h) + bytes(v for row in pixels for v in row for _ in range(3)))
+
+
 def main():
     os.makedirs(TESTS + "/data", exist_ok=True)
     for old in os.listdir(TESTS + "/data"):
@@ -244,6 +303,8 @@ def main():
     open("crates/bench/stdin", "wb").write(LISTED)
     open("crates/bench/stdout", "w").write(listed(16, 2, 1, [DOOR]))
     open("rooms/cellar.room", "wb").write(sample())
+    write_strips_room("raw", grain, raw)
+    write_strips_room("runs", rings, with_runs)
 
 
 if __name__ == "__main__":

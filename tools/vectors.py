@@ -1,8 +1,8 @@
 #!/usr/bin/env python3
 """Writes crates/vectors/stdout: what the bodies of the program `vectors` must read to.
 
-A plain decoder, written from document 01 ("Strips of pixels", "Strips of masks") and not from the Rattle code. Run it from the
-repository's top folder: `python3 tools/vectors.py`.
+A plain decoder, written from document 01 ("Strips of pixels", "Strips of masks") with change request 5, and not from the Rattle code. Run
+it from the repository's top folder: `python3 tools/vectors.py`.
 """
 
 
@@ -39,12 +39,12 @@ def pixels(h, body):
     family = next((v for k, v in FAMILIES.items() if k <= code <= k + 4), None)
     if code != 1 and family is None:
         raise Refused(6)
+    if code == 1:
+        if len(body) < 1 + 8 * h:
+            raise Refused(7)
+        return list(body[1:1 + 8 * h])
     if len(body) < 2:
         raise Refused(7)
-    if code == 1:
-        if len(body) < 2 + 8 * h:
-            raise Refused(7)
-        return list(body[2:2 + 8 * h])
     less, second, vertical = family
     made = operations(body[1], Bits(body[2:]), code - less, second, 8 * h)
     if not vertical:
@@ -66,7 +66,7 @@ def operations(colour, bits, width, second, total):
         elif second:
             d = bits.take(3)
             if d == 4:
-                count = 1 + bits.take(8)
+                count = bits.take(8) or 256
             else:
                 colour = (colour + d - 4) % 256
         else:
@@ -132,7 +132,8 @@ def line(read, h, text):
 
 
 WORKED = [(rows, 6, "830003010203"), (pixels, 2, "1C05B6970000"), (pixels, 2, "110580FC00"), (pixels, 2, "1B0580FC00"),
-          (pixels, 2, "4410633600"), (pixels, 1, "44020300"), (pixels, 1, "1C05"), (pixels, 1, "1C0500"), (rows, 6, "8700")]
+          (pixels, 2, "4410633600"), (pixels, 1, "44020300"), (pixels, 1, "1C05"), (pixels, 1, "1C0500"), (rows, 6, "8700"),
+          (pixels, 2, "44106336E407"), (pixels, 33, "440513203F00"), (pixels, 32, "44051300"), (pixels, 1, "010102030405060708")]
 SOURCE_000 = "85000F010D030D00402004488460804004028300020205" "8F00010485000501201102" "01FF009600"
 BODY = "7FA53C965BE10F2DC378994217D4BB6601FE8D335AC629709EE714AB4D82F33865DA0CB15F9621"
 

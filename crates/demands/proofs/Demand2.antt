@@ -1,8 +1,9 @@
--- Demand 2 holds, by the laws of crates actor and blocks.
+-- Demand 2 holds, by the laws of crates actor and blocks and of StripReads.
 use mathlib.Core.Path.{refl}
 use Rattle.actor.proofs.ActorLaws as actor
 use Rattle.blocks.proofs.ReadBack.{smap-call-pixel, plane-call-reads}
 use Rattle.demands.specs.Demand2.{Demand2}
+use Rattle.demands.proofs.StripReads as reads
 
 pub demand2 : Demand2
 demand2 =
@@ -14,4 +15,8 @@ demand2 =
         actor.opaque-hidden frame masks picture w h n width height clear x y clip column row p q inside-x inside-y at-x at-y in-x in-y accepted opaque,
         actor.opaque-shown frame masks picture w h n width height clear x y clip column row p q inside-x inside-y at-x at-y in-x in-y accepted opaque,
       );
+      raw-loaded = reads.raw-loaded;
+      raw-strip = reads.raw-strip;
+      run-gives = reads.run-gives;
+      run-cut = reads.run-cut;
     }

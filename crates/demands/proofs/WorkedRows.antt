@@ -60,7 +60,8 @@ all-hold : List Row → Bool
 all-hold [] = true
 all-hold (r ∷ rs) = holds r && all-hold rs
 
--- rows 1 to 9, in document 01's order; row 2 is a whole ZP01 block, whose only offset is 0
+-- rows 1 to 9, in document 01's order; row 2 is a whole ZP01 block, whose only offset is 0. Rows 10 to 13 are change request 5's: a run of 13 and
+-- not 14 pixels, a run of 0 that fits and one that doesn't, a raw strip
 rows : List Row
 rows =
     masks 6 (0x83 ∷ 0x00 ∷ 0x03 ∷ 0x01 ∷ 0x02 ∷ 0x03 ∷ []) (0x00 ∷ 0x00 ∷ 0x00 ∷ 0x01 ∷ 0x02 ∷ 0x03 ∷ [])
@@ -75,6 +76,10 @@ rows =
     ∷ refuses 1 (0x1C ∷ 0x05 ∷ []) 7
     ∷ shows 1 (0x1C ∷ 0x05 ∷ 0x00 ∷ []) (replicate 8 0x05)
     ∷ refuses-mask 6 (0x87 ∷ 0x00 ∷ []) 8
+    ∷ shows 2 (0x44 ∷ 0x10 ∷ 0x63 ∷ 0x36 ∷ 0xE4 ∷ 0x07 ∷ []) (0x10 ∷ (replicate 14 0x0C ++ (0x7E ∷ [])))
+    ∷ shows 33 (0x44 ∷ 0x05 ∷ 0x13 ∷ 0x20 ∷ 0x3F ∷ 0x00 ∷ []) (replicate 257 0x05 ++ replicate 7 0x7E)
+    ∷ refuses 32 (0x44 ∷ 0x05 ∷ 0x13 ∷ 0x00 ∷ []) 8
+    ∷ shows 1 (0x01 ∷ 0x01 ∷ 0x02 ∷ 0x03 ∷ 0x04 ∷ 0x05 ∷ 0x06 ∷ 0x07 ∷ 0x08 ∷ []) (0x01 ∷ 0x02 ∷ 0x03 ∷ 0x04 ∷ 0x05 ∷ 0x06 ∷ 0x07 ∷ 0x08 ∷ [])
     ∷ []
 
 worked-rows : T (all-hold rows)

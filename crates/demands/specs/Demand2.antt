@@ -3,15 +3,22 @@
 -- inside the room is hidden exactly when the actor's own clip level names a plane of the room and that plane's bit is set there."
 --
 -- What is read, and that what is written is the writing rule's bytes, is the contracts' equations (docs/PROOFS.md names each). Here: what is
--- written reads back, and which actor pixel is hidden.
-use Prim.Native.Nat.{ℕ, _+_, _*_, _/_, _≤_, _<_}
+-- written reads back, which actor pixel is hidden, and what change request 5 says of raw strips and runs.
+use Prim.Native.Nat.{ℕ, _+_, _-_, _*_, _/_, _%_, _≤_, _<_}
 use mathlib.Core.Path.{_≡_}
-use mathlib.Core.Bool.{true}
-use mathlib.Core.List.{List}
-use mathlib.Core.Logic.{_↔_}
+use mathlib.Core.Bool.{Bool, true, false}
+use mathlib.Core.List.{List, _∷_, _++_}
+use mathlib.Core.Logic.{_↔_, _⊎_}
 use lib.IntN.{ℤ, pos, _+ℤ_}
-use lib.ListN.{length, getD}
-use Rattle.table.specs.Body.{pixelAt, maskAt}
+use lib.ListN.{length, getD, take, replicate}
+use Rattle.bits.specs.Bits.{lowBits}
+use Rattle.strip.specs.Strip.{refused, glue, decode}
+use Rattle.strip.specs.Picture.{refusal, picture, stripOf}
+use Rattle.table.specs.Body.{bodyOf, pixelAt, maskAt}
+use Rattle.room.specs.Test.{strips}
+use Rattle.room.specs.declared.Room.{Room}
+use Rattle.room.specs.declared.Tested.the-variants.{Right}
+use Rattle.load.specs.Load.{loadTest, pixelsAfter}
 use Rattle.actor.specs.Hidden.{hiddenAt, maskBit}
 use Rattle.actor.specs.Stamp.{stampNumber, stampFrame}
 use Rattle.blocks.specs.Call.{smapOutcome, planeOutcome, answerOf, targetAfter}
@@ -24,6 +31,18 @@ Bytes l = (i : ℕ) → getD l i 0 < 256
 -- the clip level names a plane of the room, and that plane's bit is set at (x, y)
 abbrev pub Behind : List ℕ → (w h n clip x y : ℕ) → Type 0
 Behind masks w h n clip x y = (1 ≤ clip) × (clip ≤ n) × (maskBit masks w h clip x y ≡ 1)
+
+-- the body of strip k of a room's background
+abbrev pub bodyIn : List ℕ → Room → ℕ → List ℕ
+bodyIn room r k = bodyOf false (strips r) room (r .smap) (r .«smap_end») k
+
+-- a run's bits up to its number: `11` and d = 4
+abbrev pub runHead : List Bool
+runHead = true ∷ true ∷ lowBits 3 4
+
+-- change request 5: "a second-method run of n gives n pixels, with 0 meaning 256"
+abbrev pub RunGives : (n pixels : ℕ) → Type 0
+RunGives n pixels = ((1 ≤ n) × (n ≤ 255) × (pixels ≡ n)) ⊎ ((n ≡ 0) × (pixels ≡ 256))
 
 pub record Demand2 : Type 0 where
   -- kg_write_smap: an accepted call has left a block that reads, pixel by pixel, as the rows given
@@ -42,3 +61,18 @@ pub record Demand2 : Type 0 where
       → (Behind masks w h n clip p q → getD (stampFrame frame masks picture w h n width height clear x y clip) (q * w + p) 0 ≡ getD frame (q * w + p) 0)
       × ((Behind masks w h n clip p q → ⊥)
       → getD (stampFrame frame masks picture w h n width height clear x y clip) (q * w + p) 0 ≡ getD picture (row * width + column) 0)
+  -- change request 5, "In a code 01 strip there is no colour byte: … the 8H pixels follow the code directly". kg_load: where a strip's body starts
+  -- with 01, the pixel in column x, row y is the body's byte 1 + 8y + x mod 8
+  pub raw-loaded : (room session pixels masks : List ℕ) (r : Room) → Right r ≡ loadTest room session pixels masks
+      → (x y : ℕ) → x < r .width → y < r .height → getD (bodyIn room r (x / 8)) 0 0 ≡ 0x01
+      → getD (pixelsAfter room (loadTest room session pixels masks) pixels) (y * r .width + x) 0 ≡ getD (bodyIn room r (x / 8)) (1 + 8 * y + x % 8) 0
+  -- and of every strip, an image's too: 7 for fewer than 1 + 8H bytes, else its pixels are the 8H bytes after the code, and opaque
+  pub raw-strip : (h : ℕ) (t : List ℕ) → (length t < 8 * h → stripOf h (0x01 ∷ t) ≡ refusal 7)
+      × (8 * h ≤ length t → stripOf h (0x01 ∷ t) ≡ picture false (take (8 * h) t))
+  -- a run, wherever in a strip its bits stand, with k pixels still to come: it gives its pixels in the colour c, and the operations after it
+  -- give the others; 8 where it is longer than what is to come
+  pub run-gives : (width k n m c step : ℕ) (l : List Bool) → RunGives n m
+      → (m ≤ k → decode true width k 0 c step (runHead ++ (lowBits 8 n ++ l)) ≡ glue (replicate m c) (decode true width (k - m) 0 c step l))
+      × (1 ≤ k → k < m → decode true width k 0 c step (runHead ++ (lowBits 8 n ++ l)) ≡ refused 8)
+  -- 7 where the number's 8 bits aren't there, however long a run it would be
+  pub run-cut : (width k c step : ℕ) (l : List Bool) → 1 ≤ k → length l < 8 → decode true width k 0 c step (runHead ++ l) ≡ refused 7

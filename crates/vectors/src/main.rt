@@ -44,7 +44,7 @@ fn rows(h: usize, body: &[u8])
     }
 }
 
-// Document 01's worked rows 1 and 3 to 9.
+// Document 01's worked rows 1 and 3 to 9, and change request 5's rows 10 to 13.
 fn worked() {
     rows(6, b"\x83\x00\x03\x01\x02\x03");
     pixels(2, b"\x1C\x05\xB6\x97\x00\x00");
@@ -55,6 +55,10 @@ fn worked() {
     pixels(1, b"\x1C\x05");
     pixels(1, b"\x1C\x05\x00");
     rows(6, b"\x87\x00");
+    pixels(2, b"\x44\x10\x63\x36\xE4\x07");
+    pixels(33, b"\x44\x05\x13\x20\x3F\x00");
+    pixels(32, b"\x44\x05\x13\x00");
+    pixels(1, b"\x01\x01\x02\x03\x04\x05\x06\x07\x08");
 }
 
 // The worked example of source 000, 200 rows.

@@ -1,0 +1,160 @@
+-- What change request 5 says of raw strips and of runs, from the laws of crates bits, strip, grid, paint, room and load.
+use mathlib.Core.Path.{_≡_, refl, sym, ap, _∙_, subst}
+use mathlib.Core.Bool.{Bool, true, false}
+use mathlib.Core.List.{List, [], _∷_, _++_}
+use mathlib.Core.Logic.{by-cases, inl, inr}
+use Prim.Native.Nat.{ℕ, zero, suc, _+_, _-_, _*_, _/_, _%_, _^_, _≤_, _<_}
+use native.Mathlib.Decide.{decLt}
+use native.Mathlib.Omega.{arith}
+use lib.Arith.{digits-div, digits-mod}
+use lib.ListN.{length, getD, take, drop, replicate, length-drop}
+use lib.Seq.{take-suc, getD-take, getD-drop}
+use Rattle.bits.specs.Bits.{lowBits, short, got, pull}
+use Rattle.bits.proofs.BitLaws.{pull-low, pull-short}
+use Rattle.grid.specs.Grid.{upd, boxed}
+use Rattle.grid.proofs.Upd.{getD-upd}
+use Rattle.grid.proofs.Box.{cell-lt, boxed-in}
+use Rattle.strip.specs.Strip.{refused, go, refuse, runPixels, changeOp, runOp, opOf, glue, decode}
+use Rattle.strip.specs.Picture.{upTo, placed, Picture, refusal, picture, fiveFrom, kindOf, rawOf, byKind, stripOf}
+use Rattle.strip.specs.declared.Kind.{Kind}
+use Rattle.strip.specs.declared.Kind.the-variants.{Raw}
+use Rattle.strip.proofs.StripLaws.{decode-op, decode-past, decode-refuse}
+use Rattle.strip.proofs.PictureLaws.{raw-short, raw-full, strip-some}
+use Rattle.table.specs.Body.{bodyOf, stripAt, pixelsOf, pixelAt}
+use Rattle.table.specs.Test.{pictureTest, stripTest}
+use Rattle.table.specs.declared.Test.the-variants.{Passed}
+use Rattle.paint.proofs.BlockLaws.{not-passed, block-strip}
+use Rattle.room.specs.Test.{strips}
+use Rattle.room.specs.declared.Room.{Room}
+use Rattle.room.specs.declared.Tested.the-variants.{Right}
+use Rattle.room.proofs.TestLaws.{test-passes, surfaces-long}
+use Rattle.load.specs.Load.{sessionSize, background, loadedPixels, loadTest, pixelsAfter}
+use Rattle.load.proofs.LoadLaws.{background-passes}
+use Rattle.demands.specs.Demand2.{bodyIn, runHead, RunGives}
+
+-- ---- raw strips
+
+raw-kind : kindOf 0x01 ≡ Raw
+unfolding kindOf
+raw-kind = refl
+
+read-in-order : (t : List ℕ) (n : ℕ) → n ≤ length t → upTo (λ j. getD t j 0) n ≡ take n t
+read-in-order t zero le = refl
+read-in-order t (suc n) le = ap (λ (l : List ℕ). l ++ (getD t n 0 ∷ [])) (read-in-order t n (omega arith)) ∙ sym (take-suc t n 0 le)
+
+placed-rows : (h : ℕ) (t : List ℕ) → 8 * h ≤ length t → placed false h t ≡ take (8 * h) t
+unfolding placed
+placed-rows h t le = read-in-order t (8 * h) le
+
+-- a body that starts with 01
+raw-body : (h : ℕ) (s : List ℕ) → 1 ≤ length s → getD s 0 0 ≡ 0x01 → stripOf h s ≡ rawOf h (drop 1 s)
+raw-body h s some code = strip-some h s some ∙ ap (λ (k : Kind). byKind h (drop 1 s) k) (ap kindOf code ∙ raw-kind)
+
+module _ (h : ℕ) (s : List ℕ) (some : 1 ≤ length s) (code : getD s 0 0 ≡ 0x01) where
+  raw-none : length s - 1 < 8 * h → stripOf h s ≡ refusal 7
+  raw-none lt = raw-body h s some code ∙ raw-short h s some lt
+
+  raw-all : 8 * h ≤ length s - 1 → stripOf h s ≡ picture false (take (8 * h) (drop 1 s))
+  raw-all le = raw-body h s some code ∙ raw-full h s some le ∙ ap (picture false) (placed-rows h (drop 1 s) (omega (arith, length-drop 1 s)))
+
+pub raw-strip : (h : ℕ) (t : List ℕ) → (length t < 8 * h → stripOf h (0x01 ∷ t) ≡ refusal 7)
+    × (8 * h ≤ length t → stripOf h (0x01 ∷ t) ≡ picture false (take (8 * h) t))
+raw-strip h t = (
+  λ lt. raw-none h (0x01 ∷ t) (omega arith) refl (omega arith),
+  λ le. raw-all h (0x01 ∷ t) (omega arith) refl (omega arith),
+)
+
+coded-some : (s : List ℕ) → getD s 0 0 ≡ 0x01 → 1 ≤ length s
+coded-some [] code = absurd (omega (arith, code))
+coded-some (c ∷ t) code = omega arith
+
+-- a pixel of a raw strip that passes
+raw-pixel : (h : ℕ) (s : List ℕ) → getD s 0 0 ≡ 0x01 → pictureTest (stripOf h s) ≡ Passed → (j : ℕ) → j < 8 * h → getD (pixelsOf (stripOf h s)) j 0 ≡ getD s (1 + j) 0
+raw-pixel h s code passed j lt =
+    let some = coded-some s code in
+    by-cases (decLt (length s - 1) (8 * h))
+    (λ few. absurd (not-passed 7 (sym (ap pictureTest (raw-none h s some code few)) ∙ passed)))
+    (λ many.
+    ap (λ (p : Picture). getD (pixelsOf p) j 0) (raw-all h s some code (omega (arith, many)))
+    ∙ getD-take (8 * h) (drop 1 s) j 0 lt
+    ∙ getD-drop 1 s j 0)
+
+-- ---- what a load leaves
+
+module _ (s : List ℕ) (r : Room) (pixels : List ℕ) (x y : ℕ) (in-x : x < r .width) (in-y : y < r .height) where
+  loaded-pixel : r .width * r .height ≤ length pixels → getD (loadedPixels s r pixels) (y * r .width + x) 0 ≡ background s r x y
+  unfolding loadedPixels
+  loaded-pixel long =
+      let w = r .width in
+      let i = y * w + x in
+      let row : i / w ≡ y = digits-div y in-x in
+      let column : i % w ≡ x = digits-mod y in-x in
+      let f : ℕ → ℕ → ℕ → ℕ = λ a b o. background s r a b in
+      getD-upd (boxed w 0 0 w (r .height) f) pixels i (omega (arith, cell-lt w (r .height) x y in-x in-y))
+      ∙ boxed-in w 0 0 w (r .height) f i (getD pixels i 0) (omega arith) (omega (arith, row)) (omega arith) (omega (arith, column))
+      ∙ (let dx : i % w - 0 ≡ x = omega (arith, column) in let dy : i / w - 0 ≡ y = omega (arith, row) in λ k. background s r (dx k) (dy k))
+
+  raw-background : stripTest false (strips r) (r .height) s (r .smap) (r .«smap_end») (x / 8) ≡ Passed → getD (bodyIn s r (x / 8)) 0 0 ≡ 0x01
+      → background s r x y ≡ getD (bodyIn s r (x / 8)) (1 + (8 * y + x % 8)) 0
+  unfolding background pixelAt stripAt stripTest
+  raw-background passed code = raw-pixel (r .height) (bodyIn s r (x / 8)) code passed (8 * y + x % 8) (omega arith)
+
+module _ (room session pixels masks : List ℕ) (r : Room) (accepted : Right r ≡ loadTest room session pixels masks) (x y : ℕ) (in-x : x < r .width) (in-y : y < r .height) where
+  pub raw-loaded : getD (bodyIn room r (x / 8)) 0 0 ≡ 0x01
+      → getD (pixelsAfter room (loadTest room session pixels masks) pixels) (y * r .width + x) 0 ≡ getD (bodyIn room r (x / 8)) (1 + 8 * y + x % 8) 0
+  raw-loaded code =
+      let passes = test-passes _ room r accepted in
+      let long = surfaces-long sessionSize (length session) (length pixels) (length masks) r (passes .enough) .1 in
+      let background-right = background-passes room r (passes .pictures) in
+      let strip-right = block-strip false (strips r) (r .height) room (r .smap) (r .«smap_end») background-right (x / 8) (omega arith) in
+      let place : 1 + (8 * y + x % 8) ≡ 1 + 8 * y + x % 8 = omega arith in
+      ap (λ t. getD (pixelsAfter room t pixels) (y * r .width + x) 0) (sym accepted)
+      ∙ loaded-pixel room r pixels x y in-x in-y long
+      ∙ raw-background room r pixels x y in-x in-y strip-right code
+      ∙ ap (λ (j : ℕ). getD (bodyIn room r (x / 8)) j 0) place
+
+-- ---- runs
+
+run-head : (w c s : ℕ) (l : List Bool) → opOf true w c s (runHead ++ l) ≡ runOp c s (pull 8 l)
+unfolding lowBits
+run-head w c s l = refl
+
+run-pixels : (n m : ℕ) → RunGives n m → (n < 256) × (runPixels n ≡ m) × (1 ≤ m)
+run-pixels zero m (inl (some, few, e)) = absurd (omega arith)
+run-pixels (suc n) m (inl (some, few, e)) = (omega arith, sym e, omega arith)
+run-pixels zero m (inr (none, e)) = (omega arith, sym e, omega arith)
+run-pixels (suc n) m (inr (none, e)) = absurd (omega arith)
+
+run-number : (c s n m : ℕ) (l : List Bool) → RunGives n m → runOp c s (got (n % 2 ^ 8) (lowBits (8 - 8) (n / 2 ^ 8) ++ l)) ≡ go (m - 1) c s l
+unfolding lowBits
+run-number c s n m l gives =
+    let p = run-pixels n m gives in
+    let small : n % 2 ^ 8 ≡ n = omega (arith, p .0) in
+    ap (λ (q : ℕ). go (runPixels q - 1) c s l) small ∙ ap (λ (q : ℕ). go (q - 1) c s l) (p .1)
+
+run-op : (w c s n m : ℕ) (l : List Bool) → RunGives n m → opOf true w c s (runHead ++ (lowBits 8 n ++ l)) ≡ go (m - 1) c s l
+run-op w c s n m l gives = run-head w c s (lowBits 8 n ++ l) ∙ ap (runOp c s) (pull-low 8 8 n l (omega arith)) ∙ run-number c s n m l gives
+
+pub run-gives : (width k n m c step : ℕ) (l : List Bool) → RunGives n m
+    → (m ≤ k → decode true width k 0 c step (runHead ++ (lowBits 8 n ++ l)) ≡ glue (replicate m c) (decode true width (k - m) 0 c step l))
+    × (1 ≤ k → k < m → decode true width k 0 c step (runHead ++ (lowBits 8 n ++ l)) ≡ refused 8)
+run-gives width k n m c step l gives =
+    let bits = runHead ++ (lowBits 8 n ++ l) in
+    let op = run-op width c step n m l gives in
+    let some = run-pixels n m gives .2 in (
+      λ le.
+          let whole : k ≡ suc (m - 1 + (k - m)) = omega arith in
+          let count : suc (m - 1) ≡ m = omega arith in
+          ap (λ (j : ℕ). decode true width j 0 c step bits) whole
+          ∙ decode-op true width c step bits (m - 1) (k - m) c step l op
+          ∙ ap (λ (j : ℕ). glue (replicate j c) (decode true width (k - m) 0 c step l)) count,
+      λ one lt.
+          let whole : k ≡ suc (k - 1) = omega arith in
+          ap (λ (j : ℕ). decode true width j 0 c step bits) whole ∙ decode-past true width c step bits (m - 1) (k - 1) c step l op (omega arith),
+    )
+
+pub run-cut : (width k c step : ℕ) (l : List Bool) → 1 ≤ k → length l < 8 → decode true width k 0 c step (runHead ++ l) ≡ refused 7
+run-cut width k c step l one few =
+    let whole : k ≡ suc (k - 1) = omega arith in
+    ap (λ (j : ℕ). decode true width j 0 c step (runHead ++ l)) whole
+    ∙ decode-refuse true width c step (runHead ++ l) 7 (k - 1) (run-head width c step l ∙ ap (runOp c step) (pull-short 8 l few))
