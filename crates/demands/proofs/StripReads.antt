@@ -1,5 +1,5 @@
 -- What change request 5 says of raw strips and of runs, from the laws of crates bits, strip, grid, paint, room and load.
-use mathlib.Core.Path.{_≡_, refl, sym, ap, _∙_, subst}
+use mathlib.Core.Path.{_≡_, refl, sym, ap, _∙_}
 use mathlib.Core.Bool.{Bool, true, false}
 use mathlib.Core.List.{List, [], _∷_, _++_}
 use mathlib.Core.Logic.{by-cases, inl, inr}
@@ -9,18 +9,18 @@ use native.Mathlib.Omega.{arith}
 use lib.Arith.{digits-div, digits-mod}
 use lib.ListN.{length, getD, take, drop, replicate, length-drop}
 use lib.Seq.{take-suc, getD-take, getD-drop}
-use Rattle.bits.specs.Bits.{lowBits, short, got, pull}
+use Rattle.bits.specs.Bits.{lowBits, got, pull}
 use Rattle.bits.proofs.BitLaws.{pull-low, pull-short}
-use Rattle.grid.specs.Grid.{upd, boxed}
+use Rattle.grid.specs.Grid.{boxed}
 use Rattle.grid.proofs.Upd.{getD-upd}
 use Rattle.grid.proofs.Box.{cell-lt, boxed-in}
-use Rattle.strip.specs.Strip.{refused, go, refuse, runPixels, changeOp, runOp, opOf, glue, decode}
-use Rattle.strip.specs.Picture.{upTo, placed, Picture, refusal, picture, fiveFrom, kindOf, rawOf, byKind, stripOf}
+use Rattle.strip.specs.Strip.{refused, go, runPixels, runOp, opOf, glue, decode}
+use Rattle.strip.specs.Picture.{upTo, placed, Picture, refusal, picture, kindOf, rawOf, byKind, stripOf}
 use Rattle.strip.specs.declared.Kind.{Kind}
 use Rattle.strip.specs.declared.Kind.the-variants.{Raw}
 use Rattle.strip.proofs.StripLaws.{decode-op, decode-past, decode-refuse}
 use Rattle.strip.proofs.PictureLaws.{raw-short, raw-full, strip-some}
-use Rattle.table.specs.Body.{bodyOf, stripAt, pixelsOf, pixelAt}
+use Rattle.table.specs.Body.{stripAt, pixelsOf, pixelAt}
 use Rattle.table.specs.Test.{pictureTest, stripTest}
 use Rattle.table.specs.declared.Test.the-variants.{Passed}
 use Rattle.paint.proofs.BlockLaws.{not-passed, block-strip}
