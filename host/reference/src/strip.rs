@@ -1,4 +1,4 @@
-//! Strips of pixels (document 01, "Strips of pixels (SMAP)"), refusals 5 to 8.
+//! Strips of pixels (document 01, "Strips of pixels (SMAP)", its rules for code 01 and d = 4 as Ticket 5 changed them), refusals 5 to 8.
 
 use crate::{table, CODE, CUT, PAST};
 
@@ -60,8 +60,15 @@ impl Bits<'_> {
     }
 }
 
-/// First method: pixels after the first until there are `count`.
-fn first_method(pixels: &mut Vec<u8>, bits: &mut Bits, width: u32, count: usize) -> Result<(), u32> {
+/// "first colour, bits": the pixels so far, and the bits that give the others.
+fn opened(rest: &[u8]) -> Result<(Vec<u8>, Bits<'_>), u32> {
+    let (first, bytes) = rest.split_first().ok_or(CUT)?;
+    Ok((vec![*first], Bits { bytes, at: 0 }))
+}
+
+/// First method: `count` pixels of the bytes after the code.
+fn first_method(rest: &[u8], width: u32, count: usize) -> Result<Vec<u8>, u32> {
+    let (mut pixels, mut bits) = opened(rest)?;
     let (mut colour, mut step) = (pixels[0], 1u8);
     while pixels.len() < count {
         if bits.bit()? == 1 {
@@ -77,11 +84,20 @@ fn first_method(pixels: &mut Vec<u8>, bits: &mut Bits, width: u32, count: usize)
         }
         pixels.push(colour);
     }
-    Ok(())
+    Ok(pixels)
+}
+
+/// "a second-method run of n gives n pixels, with 0 meaning 256".
+fn run_of(n: u8) -> usize {
+    match n {
+        0 => 256,
+        n => n as usize,
+    }
 }
 
 /// Second method. "The number's bits are looked for (7) before its run is measured (8)."
-fn second_method(pixels: &mut Vec<u8>, bits: &mut Bits, width: u32, count: usize) -> Result<(), u32> {
+fn second_method(rest: &[u8], width: u32, count: usize) -> Result<Vec<u8>, u32> {
+    let (mut pixels, mut bits) = opened(rest)?;
     let mut colour = pixels[0];
     while pixels.len() < count {
         let mut run = 1;
@@ -90,7 +106,7 @@ fn second_method(pixels: &mut Vec<u8>, bits: &mut Bits, width: u32, count: usize
                 colour = bits.number(width)?;
             } else {
                 match bits.number(3)? {
-                    4 => run = 1 + bits.number(8)? as usize,
+                    4 => run = run_of(bits.number(8)?),
                     d => colour = colour.wrapping_add(d).wrapping_sub(4),
                 }
             }
@@ -100,22 +116,22 @@ fn second_method(pixels: &mut Vec<u8>, bits: &mut Bits, width: u32, count: usize
         }
         pixels.extend(vec![colour; run]);
     }
-    Ok(())
+    Ok(pixels)
 }
 
 /// A strip's pixels by rows: pixel (column, row) at 8 × row + column.
 pub fn pixels(body: &[u8], h: usize) -> Result<Vec<u8>, u32> {
-    let code = code(*body.first().ok_or(CUT)?).ok_or(CODE)?;
-    let mut pixels = vec![*body.get(1).ok_or(CUT)?];
-    let mut bits = Bits { bytes: &body[2..], at: 0 };
-    match code.method {
-        Method::Raw => pixels = body[2..].get(..8 * h).ok_or(CUT)?.to_vec(),
-        Method::First => first_method(&mut pixels, &mut bits, code.bits, 8 * h)?,
-        Method::Second => second_method(&mut pixels, &mut bits, code.bits, 8 * h)?,
-    }
+    let (byte, rest) = body.split_first().ok_or(CUT)?;
+    let code = code(*byte).ok_or(CODE)?;
+    let pixels = match code.method {
+        // "there is no colour byte: … the 8H pixels follow the code directly".
+        Method::Raw => rest.get(..8 * h).ok_or(CUT)?.to_vec(),
+        Method::First => first_method(rest, code.bits, 8 * h)?,
+        Method::Second => second_method(rest, code.bits, 8 * h)?,
+    };
     if code.vertical {
         // "Pixel i lies at … vertical at column i / H, row i mod H."
-        pixels = (0..8 * h).map(|place| pixels[place % 8 * h + place / 8]).collect();
+        return Ok((0..8 * h).map(|place| pixels[place % 8 * h + place / 8]).collect());
     }
     Ok(pixels)
 }
