@@ -54,15 +54,16 @@ static void put_operation(int second)
 
 static void put_strip(uint32_t code, uint32_t height)
 {
-    uint32_t left = 8 * height - 1, run = 100;
+    uint32_t left = 8 * height, run = 100;
     put_byte(code);
-    put_byte(7);
     if (code == 1) {
-        for (left = 8 * height; left > 0; left--) put_byte(deep_picked(256));
+        for (; left > 0; left--) put_byte(deep_picked(256));
         return;
     }
+    put_byte(7);
+    left--;
     if (code >= 0x40) {
-        put_bits(3 | 4 << 2 | (run - 1) << 5, 13);
+        put_bits(3 | 4 << 2 | run << 5, 13);
         left -= run;
     }
     for (; left > 0; left--) put_operation(code >= 0x40);
