@@ -55,7 +55,8 @@ fn second(bits: &mut Bits, width: u32, colour: u8) -> (u8, usize) {
         return (bits.take(width), 0);
     }
     match bits.take(3) {
-        4 => (colour, bits.take(8) as usize),
+        // A number n gives n pixels, 0 gives 256: one less than that, as a byte, is right for both.
+        4 => (colour, bits.take(8).wrapping_sub(1) as usize),
         d => (colour.wrapping_add(d).wrapping_sub(4), 0),
     }
 }
@@ -112,7 +113,7 @@ unsafe fn strip(body: *const u8, h: usize, scratch: &mut Scratch, to: *mut u8, w
     *out = *body.add(1);
     let mut bits = Bits { at: body.add(2), word: 0, held: 0 };
     match code {
-        0x01 => place_rows(body.add(2), h, to, w),
+        0x01 => place_rows(body.add(1), h, to, w),
         0x0E..=0x12 => {
             first_method(&mut bits, code as u32 - 0x0A, 8 * h, out);
             place_columns(out, h, to, w);
@@ -178,6 +179,29 @@ pub fn pass(room: &Room, pixels: &mut [u8], masks: &mut [u8]) {
         for k in 0..room.spec.n {
             let block = child(image, &[b'Z', b'P', b'0', b'1' + k as u8]);
             plane(block, strips, h, masks.as_mut_ptr().add(k * strips * h));
+        }
+    }
+}
+
+#[cfg(test)]
+mod tests {
+    use super::*;
+    use crate::calls::{turn, Side, Stage, Turn};
+    use crate::loads::spec;
+    use crate::picture::PICTURES;
+    use crate::room::METHODS;
+
+    /// Under every method, in strips that hold runs of 256 pixels too.
+    #[test]
+    fn the_pass_loads_as_the_reference() {
+        for (picture, method) in PICTURES.iter().flat_map(|picture| METHODS.map(|method| (*picture, method))) {
+            let room = &spec((64, 80), 2, picture, method).make();
+            let (mut wanted, mut stage) = (Stage::new(room), Stage::new(room));
+            turn(Side::Reference, Turn::Load, room, &mut wanted);
+            stage.pixels.fill(77);
+            stage.masks.fill(77);
+            pass(room, &mut stage.pixels, &mut stage.masks);
+            assert!(stage == wanted, "{}, {}", picture.name(), method.name());
         }
     }
 }

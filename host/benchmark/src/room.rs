@@ -1,7 +1,7 @@
 //! Writes the measured rooms: a background under given coding methods, planes, and objects with two states.
 
 use crate::picture::{plane, shape, Picture};
-use common::bits::{Bits, RUN};
+use common::bits::Bits;
 use reference::write;
 
 #[derive(Clone, Copy, PartialEq)]
@@ -47,7 +47,7 @@ fn second(pixels: &[u8]) -> Vec<u8> {
     while i < pixels.len() {
         let run = pixels[i..].iter().take_while(|pixel| **pixel == colour).count().min(256);
         if run > 13 {
-            bits.put(RUN | (run - 1) << 5, 13);
+            bits.put_run(run);
             i += run;
             continue;
         }
@@ -70,7 +70,7 @@ fn body(method: Method, pixels: &[u8]) -> Vec<u8> {
         Method::Horizontal => write::strip(pixels),
         Method::Vertical => write::strip(&(0..8 * h).map(|i| pixels[i % h * 8 + i / h]).collect::<Vec<u8>>()),
         Method::Second => second(pixels),
-        Method::Raw => [&[0, pixels[0]], pixels].concat(),
+        Method::Raw => [&[0], pixels].concat(),
     };
     body[0] = method.code();
     body
@@ -216,10 +216,13 @@ mod tests {
         }
     }
 
-    /// A run of 256 pixels, the longest that one operation gives, and one more.
+    /// The shortest runs that are coded as such and those around 256 pixels, the longest that one operation gives, with its number 0.
     #[test]
-    fn long_runs_read_back() {
-        let pixels = [vec![7; 1 + 256 + 256 + 7], vec![200; 8]].concat();
-        assert_eq!(strip::pixels(&second(&pixels), pixels.len() / 8), Ok(pixels));
+    fn runs_read_back() {
+        for run in [13, 14, 15, 254, 255, 256, 257, 270, 512] {
+            let pixels = [vec![7; 1 + run], vec![200; 16 - (1 + run) % 8]].concat();
+            assert_eq!(strip::pixels(&second(&pixels), pixels.len() / 8), Ok(pixels), "a run of {run}");
+        }
+        assert_eq!(second(&[7; 264])[..4], [0x44, 7, 0x13, 0]);
     }
 }

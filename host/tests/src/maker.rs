@@ -59,13 +59,7 @@ impl Maker {
         let object = if r.once_in(25) { r.range(0, self.objects + 1) } else { r.range(1, self.first) };
         let state = if r.once_in(15) { r.range(0, 10) } else { r.range(1, 3).min(r.range(1, 3)) };
         let (object, state) = (number(r, object), number(r, state));
-        let mut lot = r.below(self.share.iter().sum());
-        let mut kind = 0;
-        while lot >= self.share[kind] {
-            lot -= self.share[kind];
-            kind += 1;
-        }
-        match kind {
+        match r.share(&self.share) {
             0 => Turn::DrawLast { object, state },
             1 => {
                 let (a, b) = (r.below(self.w / 8 + 1), if r.once_in(2) { 0 } else { r.below(self.h / 8 + 1) });

@@ -33,6 +33,17 @@ impl Rng {
         from[self.below(from.len())].clone()
     }
 
+    /// An index into the shares, each as often as its share says.
+    pub fn share(&mut self, shares: &[usize]) -> usize {
+        let mut lot = self.below(shares.iter().sum());
+        let mut index = 0;
+        while lot >= shares[index] {
+            lot -= shares[index];
+            index += 1;
+        }
+        index
+    }
+
     pub fn byte(&mut self) -> u8 {
         self.next() as u8
     }

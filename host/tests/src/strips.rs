@@ -1,7 +1,7 @@
 //! Strip tables and bodies: operations drawn at random and encoded, so that they decode; or spoilt at one place.
 
 use crate::rng::Rng;
-use common::bits::{Bits, RUN};
+use common::bits::Bits;
 
 /// A block of strips: `width` is the bytes of an offset, 4 in SMAP, 2 in ZP; a strip without body has offset 0.
 #[derive(Clone)]
@@ -54,6 +54,10 @@ pub fn known(code: u8) -> bool {
     code == 1 || STARTS.iter().any(|start| (*start..start + 5).contains(&code))
 }
 
+pub fn is_second(code: u8) -> bool {
+    known(code) && code >= 0x40
+}
+
 pub fn any_code(r: &mut Rng) -> u8 {
     if r.once_in(12) {
         1
@@ -74,41 +78,17 @@ fn finish(r: &mut Rng, mut body: Vec<u8>, fault: Fault) -> Vec<u8> {
     body
 }
 
-/// A body of pixels under `code` for 8 × h pixels.
-pub fn pixel_body(r: &mut Rng, code: u8, h: usize, fault: Fault) -> Vec<u8> {
-    let first = r.byte();
-    if code == 1 {
-        let pixels = r.bytes(8 * h);
-        return finish(r, [vec![1, first], pixels].concat(), fault);
-    }
-    let start = *STARTS.iter().find(|start| (**start..**start + 5).contains(&code)).unwrap();
-    let (second, index) = (start >= 0x40, (code - start) as usize + 4);
-    // The share of keeps, new indexes, steps, runs.
-    let share = r.pick(&[[1, 1, 1, 1], [20, 1, 1, 1], [1, 20, 1, 0], [1, 1, 20, 0], [0, 0, 1, 0], [2, 1, 2, 12]]);
-    let (mut bits, mut made) = (Bits::after(vec![code, first]), 1);
-    let spoil_at = r.range(1, 8 * h);
-    while made < 8 * h {
-        let left = 8 * h - made;
-        if fault == Fault::Overrun && second && left <= 255 && (made >= spoil_at || left < 8) {
-            let n = if r.once_in(2) { left } else { r.range(left, 255) };
-            bits.put(RUN, 5);
-            bits.put(n, 8);
-            // Sometimes the number's own bits are missing: then it is 7, not 8.
-            if r.once_in(4) {
-                bits.bytes.pop();
-            }
-            let unused = r.below(4);
-            let unused = r.bytes(unused);
-            return [bits.bytes, unused].concat();
-        }
-        let mut lot = r.below(share.iter().sum());
-        let mut kind = 0;
-        while lot >= share[kind] {
-            lot -= share[kind];
-            kind += 1;
-        }
-        made += 1;
-        match (kind, second) {
+/// The shares of keeps, new indexes, steps and runs. The first method has steps for runs.
+const SHARES: [[usize; 4]; 6] = [[1, 1, 1, 1], [20, 1, 1, 1], [1, 20, 1, 0], [1, 1, 20, 0], [0, 0, 1, 0], [2, 1, 2, 12]];
+
+/// Operations under `code` that make the pixels after the first one, exactly until there are `count`.
+pub fn put_operations(r: &mut Rng, bits: &mut Bits, code: u8, count: usize) {
+    let start = STARTS.into_iter().find(|start| (*start..start + 5).contains(&code)).expect("a code with operations");
+    let (index, share) = ((code - start) as usize + 4, r.pick(&SHARES));
+    let mut made = 1;
+    while made < count {
+        let mut pixels = 1;
+        match (r.share(&share), is_second(code)) {
             (0, _) => bits.put(0, 1),
             (1, _) => {
                 bits.put(0b01, 2);
@@ -116,20 +96,46 @@ pub fn pixel_body(r: &mut Rng, code: u8, h: usize, fault: Fault) -> Vec<u8> {
             }
             (_, false) => bits.put(if r.once_in(3) { 0b111 } else { 0b011 }, 3),
             (3, true) => {
-                let n = r.below(left.min(256));
-                let n = if r.once_in(3) { left.min(256) - 1 } else { n };
-                bits.put(RUN, 5);
-                bits.put(n, 8);
-                made += n;
+                let most = (count - made).min(256);
+                pixels = if r.once_in(3) { most } else { r.range(1, most) };
+                bits.put_run(pixels);
             }
             (_, true) => {
                 let d = r.pick(&[0, 1, 2, 3, 5, 6, 7]);
                 bits.put(d << 2 | 0b11, 5);
             }
         }
+        made += pixels;
     }
+}
+
+/// A body that ends with a run past the strip's end, where at most 255 pixels are left.
+fn overrun(r: &mut Rng, mut bits: Bits, left: usize) -> Vec<u8> {
+    bits.put_run(if r.once_in(2) { left + 1 } else { r.range(left + 1, 256) });
+    if r.once_in(4) {
+        // The number's own bits are missing: then it is 7, not 8.
+        bits.bytes.pop();
+        return bits.bytes;
+    }
+    let unused = r.below(4);
+    [bits.bytes, r.bytes(unused)].concat()
+}
+
+/// A body of pixels under `code` for 8 × h pixels.
+pub fn pixel_body(r: &mut Rng, code: u8, h: usize, fault: Fault) -> Vec<u8> {
+    if code == 1 {
+        let pixels = r.bytes(8 * h);
+        return finish(r, [vec![1], pixels].concat(), fault);
+    }
+    let mut bits = Bits::after(vec![code, r.byte()]);
+    if fault == Fault::Overrun && is_second(code) {
+        let made = r.range((8 * h).saturating_sub(255).max(1), 8 * h - 1);
+        put_operations(r, &mut bits, code, made);
+        return overrun(r, bits, 8 * h - made);
+    }
+    put_operations(r, &mut bits, code, 8 * h);
     // The last byte's unused bits may hold anything.
-    if bits.used % 8 != 0 && r.once_in(2) {
+    if !bits.used.is_multiple_of(8) && r.once_in(2) {
         let free = 8 - bits.used % 8;
         let number = r.byte() as usize;
         bits.put(number, free);
@@ -201,15 +207,19 @@ mod tests {
     use super::*;
     use reference::{mask, strip};
 
-    /// What the scenes count on: a body without a fault is accepted, a cut one is refused as cut.
+    /// What the scenes count on: a body without a fault is accepted, a cut one is refused as cut, and one with a run too long for that.
     #[test]
-    fn bodies_are_right_or_cut() {
-        let r = &mut Rng::new(1);
+    fn bodies_are_right_or_spoilt() {
+        let (r, mut overruns) = (&mut Rng::new(1), [0; 9]);
         for _ in 0..4000 {
             let (code, h) = (any_code(r), r.range(1, 200));
             assert_eq!(strip::pixels(&pixel_body(r, code, h, Fault::None), h).map(|pixels| pixels.len()), Ok(8 * h));
             assert_eq!(strip::pixels(&pixel_body(r, code, h, Fault::Cut), h), Err(7));
+            if is_second(code) {
+                overruns[strip::pixels(&pixel_body(r, code, h, Fault::Overrun), h).expect_err("a run past the end") as usize] += 1;
+            }
             assert_eq!(mask::rows(&mask_body(r, h, Fault::None), h).map(|rows| rows.len()), Ok(h));
         }
+        assert!(overruns[7] > 300 && overruns[8] > 900 && overruns[..7] == [0; 7], "{overruns:?}");
     }
 }
