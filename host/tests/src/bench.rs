@@ -2,6 +2,7 @@
 
 use crate::lent::Slot;
 use crate::rng::Rng;
+use crate::shapes::{shapes, Shape};
 use std::collections::BTreeMap;
 use std::sync::atomic::{AtomicU64, AtomicUsize, Ordering::Relaxed};
 
@@ -27,6 +28,13 @@ pub const CALLS: [&str; 17] = [
 /// A full run must have reached them all.
 const NUMBERS: [u32; 16] = [0, 1, 2, 3, 4, 5, 6, 7, 8, 9, 10, 11, 12, 13, 14, 15];
 
+/// Where a deliberate body is read. A full run must have reached them all in both.
+#[derive(Clone, Copy)]
+pub enum Place {
+    Background,
+    Image,
+}
+
 /// What runs now, for the signal handler.
 static SEED: AtomicU64 = AtomicU64::new(0);
 static CALL: AtomicUsize = AtomicUsize::new(0);
@@ -49,6 +57,8 @@ pub struct Bench {
     seed: u64,
     pub cases: u64,
     counts: BTreeMap<(usize, u32), u64>,
+    /// How often each deliberate body was read as it must be, by place.
+    shapes: BTreeMap<Shape, [u64; 2]>,
     differences: BTreeMap<String, u64>,
 }
 
@@ -63,6 +73,7 @@ impl Bench {
             seed: 0,
             cases: 0,
             counts: BTreeMap::new(),
+            shapes: shapes().into_iter().map(|shape| (shape, [0; 2])).collect(),
             differences: BTreeMap::new(),
         }
     }
@@ -84,6 +95,14 @@ impl Bench {
         if *seen <= 3 {
             println!("DIFFERENCE seed {} call {kind}\n    {text}", self.seed);
         }
+    }
+
+    /// A deliberate body was read: counted if the call's number is the body's.
+    pub fn read(&mut self, call: &str, shape: Shape, place: Place, number: u32) {
+        if number == shape.number() {
+            return self.shapes.get_mut(&shape).expect("a shape")[place as usize] += 1;
+        }
+        self.differ(call, "reads a deliberate body otherwise", &format!("{}: {number}, not {}", shape.name(), shape.number()));
     }
 
     /// One case. `library` gets pointers to guarded copies of the buffers, `reference` gets copies; each answers one word, and the
@@ -126,8 +145,8 @@ impl Bench {
         (number, want, after)
     }
 
-    /// The table, and whether all is well.
-    pub fn report(&self, all_numbers: bool) -> bool {
+    /// The table of calls and numbers, and the numbers that no call gave.
+    fn numbers(&self) -> Vec<String> {
         print!("{:>12}", "");
         NUMBERS.iter().for_each(|number| print!("{number:>9}"));
         println!();
@@ -145,8 +164,23 @@ impl Bench {
         print!("{:>12}", "all");
         NUMBERS.iter().for_each(|number| print!("{:>9}", sum(*number)));
         println!();
-        let missing: Vec<u32> = NUMBERS.into_iter().filter(|number| sum(*number) == 0).collect();
-        if all_numbers && !missing.is_empty() {
+        NUMBERS.into_iter().filter(|number| sum(*number) == 0).map(|number| number.to_string()).collect()
+    }
+
+    /// The table of deliberate bodies, and those that weren't reached in both places.
+    fn bodies(&self) -> Vec<String> {
+        println!("{:<32}{:>9}{:>12}{:>9}", "deliberate bodies", "number", "background", "image");
+        for (shape, [background, image]) in &self.shapes {
+            println!("{:<32}{:>9}{background:>12}{image:>9}", shape.name(), shape.number());
+        }
+        self.shapes.iter().filter(|(_, counts)| counts.contains(&0)).map(|(shape, _)| shape.name()).collect()
+    }
+
+    /// The tables, and whether all is well; a full run must have reached everything.
+    pub fn report(&self, full: bool) -> bool {
+        let mut missing = self.numbers();
+        missing.extend(if full { self.bodies() } else { vec![] });
+        if full && !missing.is_empty() {
             println!("never reached: {missing:?}");
         }
         for (kind, count) in &self.differences {
@@ -154,6 +188,6 @@ impl Bench {
         }
         let differences: u64 = self.differences.values().sum();
         println!("{} cases, {differences} differences", self.cases);
-        differences == 0 && (missing.is_empty() || !all_numbers)
+        differences == 0 && (missing.is_empty() || !full)
     }
 }

@@ -2,6 +2,7 @@
 
 use crate::rng::Rng;
 use crate::rooms::{self, Plan, CONTAINERS, OTHER};
+use crate::shapes::any_shape;
 use crate::strips::{any_code, known, mask_body, pixel_body, Fault, Strips};
 use crate::tree::{leaf, Body, Node};
 
@@ -215,6 +216,8 @@ pub fn wrong_body(r: &mut Rng, strips: &mut Strips) {
         let fault = r.pick(&[Fault::Overrun, Fault::Cut]);
         strips.bodies[strip] = Some(if strips.width == 2 {
             mask_body(r, h, fault)
+        } else if r.once_in(6) {
+            any_shape(r, h)
         } else if r.once_in(4) {
             let mut body = strips.bodies[strip].clone().unwrap();
             let code = (0..).map(|_| r.byte()).find(|code| !known(*code)).unwrap();

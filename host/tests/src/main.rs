@@ -18,6 +18,8 @@ mod rng;
 mod room_scenes;
 mod rooms;
 mod session_scenes;
+mod shape_scenes;
+mod shapes;
 mod stages;
 mod strips;
 mod tree;
@@ -41,6 +43,7 @@ fn run(b: &mut Bench, seed: u64) {
         19 => room_scenes::arbitrary(b, r),
         20 if r.once_in(8) => room_scenes::every_cut(b, r),
         21 if r.once_in(40) => room_scenes::at_the_limit(b, r),
+        21 if r.once_in(2) => shape_scenes::every_shape(b, r),
         20 | 21 => room_scenes::damaged(b, r),
         22 if r.once_in(4) => actor_scenes::every_point(b, r),
         22 => actor_scenes::questions(b, r),

@@ -204,6 +204,13 @@ pub fn room_of(r: &mut Rng, w: usize, h: usize, n: usize) -> Plan {
     Plan { w, h, n, root: container(b"ROOM", kids) }
 }
 
+/// The same without objects, for a scene that puts its own there.
+pub fn bare_room_of(r: &mut Rng, w: usize, h: usize, n: usize) -> Plan {
+    let mut plan = room_of(r, w, h, n);
+    plan.root.kids().retain(|kid| &kid.tag != b"OBCD" && &kid.tag != b"OBIM");
+    plan
+}
+
 pub fn room(r: &mut Rng) -> Plan {
     let ((w, h), n) = (sizes(r), r.below(5));
     room_of(r, w, h, n)

@@ -181,8 +181,7 @@ fn sizes(r: &mut Rng) -> (usize, usize) {
 /// Many objects that share one small image, so that the shown list grows long.
 fn crowd(r: &mut Rng) -> Plan {
     let (w, h, n) = (8 * if r.once_in(2) { r.range(20, 128) } else { r.range(64, 80) }, r.range(1, 12), r.below(3));
-    let mut plan = rooms::room_of(r, w, h, n);
-    plan.root.kids().retain(|kid| &kid.tag != b"OBCD" && &kid.tag != b"OBIM");
+    let mut plan = rooms::bare_room_of(r, w, h, n);
     let (pool, count) = (Pool { room: (w, h), sizes: vec![(8, r.range(1, h))], places: vec![(0, 0)] }, r.range(64, 128));
     let (mut blocks, parents) = (vec![obim(r, 257, &pool, n)], parents(r));
     blocks.extend((1..=count).map(|number| obcd(r, (257, number, count), parents, (w, h))));
@@ -203,8 +202,7 @@ pub fn stage(r: &mut Rng) -> Plan {
 /// A few objects, each with an image of its own.
 fn cast(r: &mut Rng) -> Plan {
     let ((w, h), n) = (sizes(r), r.below(5));
-    let mut plan = rooms::room_of(r, w, h, n);
-    plan.root.kids().retain(|kid| &kid.tag != b"OBCD" && &kid.tag != b"OBIM");
+    let mut plan = rooms::bare_room_of(r, w, h, n);
     let count = match r.below(60) {
         0 => r.range(100, 128),
         1 => 0,
