@@ -33,7 +33,7 @@ impl Bits {
     }
 }
 
-/// Document 01's worked rows 3 and 6 and Ticket 5's rows 10 and 11, put together from their operations.
+/// Document 01's worked rows 3 and 6 and change request 5's rows 10 and 11, put together from their operations.
 #[test]
 fn worked_rows() {
     let mut third = Bits::after(vec![0x1C, 5]);

@@ -1,4 +1,4 @@
-//! Document 01, "Worked rows", those that Ticket 5 adds, and source 000's 39-byte strip.
+//! Document 01, "Worked rows", those that change request 5 adds, and source 000's 39-byte strip.
 
 use crate::{mask, strip, write};
 

@@ -1,4 +1,4 @@
-//! Strips of pixels (document 01, "Strips of pixels (SMAP)", its rules for code 01 and d = 4 as Ticket 5 changed them), refusals 5 to 8.
+//! Strips of pixels (document 01, "Strips of pixels (SMAP)", its rules for code 01 and d = 4 as change request 5 changed them), refusals 5 to 8.
 
 use crate::{table, CODE, CUT, PAST};
 
