@@ -7,7 +7,7 @@ use Prim.Native.Nat.{ℕ, zero, suc, _+_, _-_, _*_, _/_, _%_, _^_, _≤_, _<_}
 use native.Mathlib.Decide.{decLt}
 use native.Mathlib.Omega.{arith}
 use lib.Arith.{digits-div, digits-mod}
-use lib.ListN.{length, getD, take, drop, replicate, length-drop}
+use lib.ListN.{length, getD, take, drop, replicate}
 use lib.Seq.{take-suc, getD-take, getD-drop}
 use Rattle.bits.specs.Bits.{lowBits, got, pull}
 use Rattle.bits.proofs.BitLaws.{pull-low, pull-short}
@@ -51,17 +51,17 @@ raw-body : (h : ℕ) (s : List ℕ) → 1 ≤ length s → getD s 0 0 ≡ 0x01 �
 raw-body h s some code = strip-some h s some ∙ ap (λ (k : Kind). byKind h (drop 1 s) k) (ap kindOf code ∙ raw-kind)
 
 module _ (h : ℕ) (s : List ℕ) (some : 1 ≤ length s) (code : getD s 0 0 ≡ 0x01) where
-  raw-none : length s - 1 < 8 * h → stripOf h s ≡ refusal 7
-  raw-none lt = raw-body h s some code ∙ raw-short h s some lt
+  raw-none : length (drop 1 s) < 8 * h → stripOf h s ≡ refusal 7
+  raw-none lt = raw-body h s some code ∙ raw-short h (drop 1 s) lt
 
-  raw-all : 8 * h ≤ length s - 1 → stripOf h s ≡ picture false (take (8 * h) (drop 1 s))
-  raw-all le = raw-body h s some code ∙ raw-full h s some le ∙ ap (picture false) (placed-rows h (drop 1 s) (omega (arith, length-drop 1 s)))
+  raw-all : 8 * h ≤ length (drop 1 s) → stripOf h s ≡ picture false (take (8 * h) (drop 1 s))
+  raw-all le = raw-body h s some code ∙ raw-full h (drop 1 s) le ∙ ap (picture false) (placed-rows h (drop 1 s) le)
 
 pub raw-strip : (h : ℕ) (t : List ℕ) → (length t < 8 * h → stripOf h (0x01 ∷ t) ≡ refusal 7)
     × (8 * h ≤ length t → stripOf h (0x01 ∷ t) ≡ picture false (take (8 * h) t))
 raw-strip h t = (
-  λ lt. raw-none h (0x01 ∷ t) (omega arith) refl (omega arith),
-  λ le. raw-all h (0x01 ∷ t) (omega arith) refl (omega arith),
+  raw-none h (0x01 ∷ t) (omega arith) refl,
+  raw-all h (0x01 ∷ t) (omega arith) refl,
 )
 
 coded-some : (s : List ℕ) → getD s 0 0 ≡ 0x01 → 1 ≤ length s
@@ -72,7 +72,7 @@ coded-some (c ∷ t) code = omega arith
 raw-pixel : (h : ℕ) (s : List ℕ) → getD s 0 0 ≡ 0x01 → pictureTest (stripOf h s) ≡ Passed → (j : ℕ) → j < 8 * h → getD (pixelsOf (stripOf h s)) j 0 ≡ getD s (1 + j) 0
 raw-pixel h s code passed j lt =
     let some = coded-some s code in
-    by-cases (decLt (length s - 1) (8 * h))
+    by-cases (decLt (length (drop 1 s)) (8 * h))
     (λ few. absurd (not-passed 7 (sym (ap pictureTest (raw-none h s some code few)) ∙ passed)))
     (λ many.
     ap (λ (p : Picture). getD (pixelsOf p) j 0) (raw-all h s some code (omega (arith, many)))

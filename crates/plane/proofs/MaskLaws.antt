@@ -10,10 +10,8 @@ use lib.ListN.{length, take, drop, set, replicate, getD, length-drop, drop-of-le
 use lib.Seq.{drop-cons, drop-drop, take-suc, take-suc-set, getD-drop}
 use Rattle.strip.specs.declared.Made.{Made}
 use Rattle.strip.specs.declared.Made.the-variants.{All}
-use Rattle.strip.specs.Strip.{Strip, refused, pixels, onto, glue, Filled}
-use Rattle.strip.specs.Tally.{madeOf}
-use Rattle.strip.proofs.StripLaws.{glue-none, glue-onto, glue-glue}
-use Rattle.strip.proofs.PastLaws.{made-glue}
+use Rattle.strip.specs.Strip.{Strip, refused, pixels, madeOf, onto, glue, Filled}
+use Rattle.strip.proofs.StripLaws.{glue-none, glue-onto, glue-glue, made-glue}
 use Rattle.plane.specs.declared.Rows.{Rows}
 use Rattle.plane.specs.declared.Rows.the-variants.{Literals, Copies, Refuse}
 use Rattle.plane.specs.Mask.{Owed, literals, copies, Plan, past, owe, planOf, rowsOf, RowsAt}

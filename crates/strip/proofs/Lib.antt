@@ -1,9 +1,5 @@
 pub mod StripLaws
 pub mod OpLaws
 pub mod PictureLaws
-pub mod TallyLaws
-pub mod LookLaws
-pub mod RowLaws
 pub mod PlaceLaws
-pub mod PastLaws
 pub mod FillLaws

@@ -12,12 +12,10 @@ use lib.Seq.{take-suc-set, take-all, getD-take}
 use lib.Dec.{leb, ltb}
 use Rattle.strip.specs.declared.Answer.{Answer}
 use Rattle.strip.specs.declared.Answer.the-variants.{Drawn, Refused}
-use Rattle.strip.specs.declared.Made.{Made}
 use Rattle.strip.specs.declared.Kind.{Kind}
 use Rattle.bits.specs.Bits.{bitsOf}
-use Rattle.strip.specs.Strip.{Strip, decode}
-use Rattle.strip.specs.Place.{Drew}
-use Rattle.strip.specs.Picture.{notBelow, fiveFrom, sourceOf, upTo, over, Width, placed, Picture, refusal, picture, rawOf, codedOf, shown, stripOf, byKind, kindOf, Answered}
+use Rattle.strip.specs.Strip.{decode}
+use Rattle.strip.specs.Picture.{notBelow, fiveFrom, sourceOf, upTo, over, Width, placed, Picture, unless, refusal, picture, rawOf, codedOf, shown, stripOf, byKind, kindOf, Answered}
 
 pub five-from : (low code : ℕ) → fiveFrom low code ≡ true → (low ≤ code) × (code ≤ low + 4)
 unfolding fiveFrom
@@ -83,9 +81,6 @@ answered-yes x clear px d out e f = subst (λ q. Answered q d out (Drawn clear))
 pub answered-from : (d out : List ℕ) (r : Answer) {x y : Picture} → x ≡ y → Answered y d out r → Answered x d out r
 answered-from d out r e h = subst (λ q. Answered q d out r) (sym e) h
 
-pub told-drew : (n : ℕ) (x : Strip) (out : List ℕ) {r r′ : Made} → r ≡ r′ → Drew n x out r → Drew n x out r′
-told-drew n x out e h = subst (λ q. Drew n x out q) e h
-
 pub told-width : {r r′ : Kind} → r ≡ r′ → Width r → Width r′
 told-width e h = subst (λ q. Width q) e h
 
@@ -93,15 +88,13 @@ told-width e h = subst (λ q. Width q) e h
 pub part-one : (s : List ℕ) → take (length s - 1) (drop 1 s) ≡ drop 1 s
 part-one s = take-all _ _ (le-of-eq (length-drop 1 s))
 
-pub raw-short : (h : ℕ) (s : List ℕ) → 1 ≤ length s → length s - 1 < 8 * h → rawOf h (drop 1 s) ≡ refusal 7
+pub raw-short : (h : ℕ) (t : List ℕ) → length t < 8 * h → rawOf h t ≡ refusal 7
 unfolding rawOf
-raw-short h [] le lt = absurd (omega arith)
-raw-short h (a ∷ t) le lt = rw (lt-ltb (length t) (8 * h) (omega arith))
+raw-short h t lt = ap (λ (few : Bool). unless few (refusal 7) (picture false (placed false h t))) (lt-ltb (length t) (8 * h) lt)
 
-pub raw-full : (h : ℕ) (s : List ℕ) → 1 ≤ length s → 8 * h ≤ length s - 1 → rawOf h (drop 1 s) ≡ picture false (placed false h (drop 1 s))
+pub raw-full : (h : ℕ) (t : List ℕ) → 8 * h ≤ length t → rawOf h t ≡ picture false (placed false h t)
 unfolding rawOf
-raw-full h [] le lt = absurd (omega arith)
-raw-full h (a ∷ t) le lt = rw (le-ltb (length t) (8 * h) (omega arith))
+raw-full h t le = ap (λ (few : Bool). unless few (refusal 7) (picture false (placed false h t))) (le-ltb (length t) (8 * h) le)
 
 module _ (second vertical clear : Bool) (w h : ℕ) where
   pub coded-none : (s : List ℕ) → length s < 2 → codedOf second vertical clear w h (drop 1 s) ≡ refusal 7

@@ -1,27 +1,24 @@
--- Laws of places in a strip: what an operation, many keeps and a refusal come to, and that steps and paintings go on from one another.
+-- Laws of places in a strip: what an operation, many keeps and a refusal come to.
 use mathlib.Core.Path.{_≡_, refl, sym, ap, ap₂, _∙_, subst}
-use mathlib.Core.Bool.{Bool, true, false, cond, true≢false}
+use mathlib.Core.Bool.{Bool, true, false, _&&_, true≢false}
 use mathlib.Core.Logic.{by-cases}
-use mathlib.Core.List.{List, [], _∷_, _++_, append-nil}
+use mathlib.Core.List.{List, [], _∷_, _++_}
 use Prim.Native.Nat.{ℕ, zero, suc, _+_, _-_, _*_, _/_, _%_, _^_, _≤_, _<_}
 use native.Mathlib.Nat.{div-one, sub-zero}
 use native.Mathlib.Numerals.{add-one, one-add}
 use native.Mathlib.Decide.{decLt}
 use native.Mathlib.Omega.{arith}
 use borrow.Author.Tests.{eqb-true}
-use lib.Dec.{eqb}
-use lib.ListN.{length, take, drop, set, replicate, drop-of-length-le}
+use lib.ListN.{length, drop, replicate, drop-of-length-le}
 use lib.Pow.{mod-pow-add, shr-shr}
-use lib.Seq.{take-suc-set}
 use Rattle.bits.specs.declared.Cursor.{Cursor}
 use Rattle.bits.specs.Bits.{lowBits, bitsOf, rest, Held, Full, moved}
 use Rattle.bits.proofs.CursorLaws.{moved-held}
 use Rattle.strip.specs.declared.State.{State}
-use Rattle.strip.specs.declared.Next.{Next}
-use Rattle.strip.specs.declared.Next.the-variants.{Go, Refuse}
-use Rattle.strip.specs.Strip.{Move, refuse, go, runPixels, opOf, Strip, refused, pixels, glue, decode}
-use Rattle.strip.specs.Place.{opLength, runAhead, ahead, Gives, Stepped, LeadsTo, keptBy, Painted, Paints, Advances, Turned}
-use Rattle.strip.proofs.StripLaws.{glue-none, glue-glue, decode-owed, decode-op, decode-past, decode-refuse}
+use Rattle.strip.specs.declared.Next.the-variants.{Go}
+use Rattle.strip.specs.Strip.{Move, refuse, go, runPixels, opOf, refused, glue, decode}
+use Rattle.strip.specs.Place.{opLength, runAhead, ahead, Gives, Stepped, LeadsTo, keptBy}
+use Rattle.strip.proofs.StripLaws.{glue-none, glue-glue, decode-op, decode-past, decode-refuse}
 use Rattle.strip.proofs.OpLaws.{op-keep, op-run, op-none, op-short, run-short}
 
 -- the same cursor's bits, where no byte is left
@@ -108,6 +105,15 @@ module _ (second : Bool) (w total : ℕ) (s : List ℕ) (st : State) (left : st 
 
 -- ---- a run
 
+-- both of two tests, as a run of the second method asks them
+pub first-of : (a b : Bool) → (a && b) ≡ true → a ≡ true
+first-of true b e = refl
+first-of false b e = absurd (true≢false (sym e))
+
+pub second-of : (a b : Bool) → (a && b) ≡ true → b ≡ true
+second-of true b e = e
+second-of false b e = absurd (true≢false (sym e))
+
 moved-moved : (m n : ℕ) (c : Cursor) → moved n (moved m c) ≡ moved (m + n) c
 moved-moved m n c =
     let e : c .have - m - n ≡ c .have - (m + n) = omega arith in
@@ -172,136 +178,3 @@ module _ (w total : ℕ) (s : List ℕ) (st : State) (left : st .i < total) (is-
           subst (Held s) (sym after) (moved-held s (st .cur) 13 enough held),
           gives-op true w total s st to (n - 1) (runs enough ∙ (λ i. go (owed i) (st .colour) (st .step) (rest s (sym after i)))) (omega arith) (omega arith),
         )
-
--- ---- painting
-
-module _ (second : Bool) (w total : ℕ) (s : List ℕ) where
-  pub paints : (st to : State) (out out′ : List ℕ) → Gives second w total s st to → take (to .i) out′ ≡ take (st .i) out ++ replicate (to .i - st .i) (to .colour)
-      → Paints second w total s st out to out′
-  paints st to out out′ g e =
-      record {
-        on = λ x p.
-            p
-            ∙ ap (glue (take (st .i) out)) g
-            ∙ glue-glue (take (st .i) out) (replicate (to .i - st .i) (to .colour)) (ahead second w total s to)
-            ∙ ap (λ (l : List ℕ). glue l (ahead second w total s to)) (sym e);
-      }
-
-  pub paints-on : (a b c : State) (p q r : List ℕ) → Paints second w total s a p b q → Paints second w total s b q c r → Paints second w total s a p c r
-  paints-on a b c p q r f g = record { on = λ x h. g .on x (f .on x h) }
-
-module _ (second : Bool) (w : ℕ) where
-  pub advances-kept : (n k : ℕ) (st : State) (out out′ : List ℕ) → k ≤ st .cur .have → st .cur .hand % 2 ^ k ≡ 0 → k ≤ n
-      → take (st .i + k) out′ ≡ take (st .i) out ++ replicate k (st .colour) → Advances second w n st out (keptBy k st) out′
-  advances-kept n k st out out′ h z le e =
-      let b : k ≡ st .i + k - st .i = omega arith in
-      record {
-        forward = omega arith;
-        few = omega arith;
-        held = λ s held. moved-held s (st .cur) k h held;
-        paints = λ s total room.
-            paints second w total s st (keptBy k st) out out′ (gives-kept second w total s st k h z (omega arith))
-            (e ∙ ap (λ (j : ℕ). take (st .i) out ++ replicate j (st .colour)) b);
-      }
-
-  pub advances-op : (n : ℕ) (st to : State) (out : List ℕ) → to .i ≡ st .i + 1 → n ≤ st .cur .have → to .cur ≡ moved n (st .cur)
-      → ((s : List ℕ) → LeadsTo second w s st to) → st .i < length out → Advances second w 1 st out to (set out (st .i) (to .colour))
-  advances-op n st to out ei le ec o room =
-      let b : 1 ≡ to .i - st .i = omega arith in
-      let suc-i : to .i ≡ suc (st .i) = omega arith in
-      record {
-        forward = omega arith;
-        few = omega arith;
-        held = λ s held. subst (Held s) (sym ec) (moved-held s (st .cur) n le held);
-        paints = λ s total more.
-            paints second w total s st to out (set out (st .i) (to .colour)) (gives-op second w total s st to 0 (o s) (omega arith) (omega arith))
-            (ap (λ (j : ℕ). take j (set out (st .i) (to .colour))) suc-i
-            ∙ take-suc-set out (st .i) (to .colour) room
-            ∙ ap (λ (j : ℕ). take (st .i) out ++ replicate j (to .colour)) b);
-      }
-
-  pub advances-on : (m n k : ℕ) (a b c : State) (p q r : List ℕ) → m + n ≤ k → Advances second w m a p b q → Advances second w n b q c r → Advances second w k a p c r
-  advances-on m n k a b c p q r le f g =
-      record {
-        forward = omega (arith, f .forward, g .forward);
-        few = omega (arith, f .few, g .few);
-        held = λ s held. g .held s (f .held s held);
-        paints = λ s total room. paints-on second w total s a b c p q r (f .paints s total (omega arith)) (g .paints s total (omega (arith, f .few)));
-      }
-
--- ---- what a group and a turn need
-
-pub length-few : (second : Bool) (w v : ℕ) → w ≤ 8 → opLength second w v ≤ 10
-length-few second w v h = by (eqb (v / 2 % 2) 0) second
-  where
-    by : (q second : Bool) → cond q (2 + w) (cond second 5 3) ≤ 10
-    by true second = omega arith
-    by false true = omega arith
-    by false false = omega arith
-
--- keeps that end at a run are some, where none stands ahead of them
-pub kept-some : (second : Bool) (v k : ℕ) → runAhead second v ≡ false → runAhead second (v / 2 ^ k) ≡ true → 0 < k
-kept-some second v zero e f = absurd (true≢false (sym f ∙ ap (runAhead second) (div-one v) ∙ e))
-kept-some second v (suc k) e f = omega arith
-
--- the place `st` is the place `from`, with more bits in hand
-module _ (second : Bool) (w total : ℕ) (s : List ℕ) (from st : State) (ei : st .i ≡ from .i) (ec : st .colour ≡ from .colour) (es : st .step ≡ from .step) (er : rest s (st .cur) ≡ rest s (from .cur)) where
-  same-ahead : ahead second w total s from ≡ ahead second w total s st
-  same-ahead = λ i. decode second w (total - sym ei i) 0 (sym ec i) (sym es i) (sym er i)
-
-  same-painted : (x : Strip) (out : List ℕ) → Painted second w total s x out from → Painted second w total s x out st
-  same-painted x out p = p ∙ ap₂ (λ (j : ℕ) (y : Strip). glue (take j out) y) (sym ei) same-ahead
-
-  pub turned-many : (n : ℕ) (to : State) (out out′ : List ℕ) → Advances second w n st out to out′ → st .i < to .i → st .i + n ≤ total → Held s (st .cur)
-      → Turned second w total s from out out′ (Go to)
-  turned-many n to out out′ f some room held = (
-    omega arith,
-    omega (arith, f .few),
-    f .held s held,
-    record { on = λ x p. f .paints s total room .on x (same-painted x out p) },
-  )
-
-  pub turned-one : (to : State) (out out′ : List ℕ) → Stepped second w total s st (Go to)
-      → take (st .i + (to .i - st .i)) out′ ≡ take (st .i) out ++ replicate (to .i - st .i) (to .colour) → Turned second w total s from out out′ (Go to)
-  turned-one to out out′ h e =
-      let more = h .0 in
-      let b : to .i ≡ st .i + (to .i - st .i) = omega (arith, more) in (
-        omega (arith, more),
-        h .1,
-        h .2,
-        record { on = λ x p. paints second w total s st to out out′ (h .3) (ap (λ (j : ℕ). take j out′) b ∙ e) .on x (same-painted x out p) },
-      )
-
-  pub turned-no : (n : ℕ) → Stepped second w total s st (Refuse n) → ahead second w total s from ≡ refused n
-  turned-no n h = same-ahead ∙ h
-
-pub stepped-as : (second : Bool) (w total : ℕ) (s : List ℕ) (st : State) {r r′ : Next} → r ≡ r′ → Stepped second w total s st r → Stepped second w total s st r′
-stepped-as second w total s st e h = subst (λ r. Stepped second w total s st r) e h
-
--- ---- the painting of a whole strip
-
-module _ (second : Bool) (w total : ℕ) where
-  -- pixel 0 is the first colour
-  pub paint-start : (c : ℕ) (l : List Bool) (out : List ℕ) → 1 ≤ total → 0 < length out
-      → decode second w total 1 c 1 l ≡ glue (take 1 (set out 0 c)) (decode second w (total - 1) 0 c 1 l)
-  paint-start c l out h some =
-      let e : total ≡ 1 + (total - 1) = omega arith in
-      ap (λ (n : ℕ). decode second w n 1 c 1 l) e
-      ∙ decode-owed second w 1 (total - 1) c 1 l
-      ∙ ap (λ (p : List ℕ). glue p (decode second w (total - 1) 0 c 1 l)) (sym (take-suc-set out 0 c some))
-
-  module _ (s : List ℕ) (x : Strip) (out : List ℕ) (st : State) (painted : Painted second w total s x out st) where
-    pub paint-end : st .i ≡ total → x ≡ pixels (take total out)
-    unfolding decode
-    paint-end e =
-        let z : total - st .i ≡ 0 = omega arith in
-        painted
-        ∙ ap (λ (n : ℕ). glue (take (st .i) out) (decode second w n 0 (st .colour) (st .step) (rest s (st .cur)))) z
-        ∙ ap pixels (append-nil (take (st .i) out))
-        ∙ ap (λ (n : ℕ). pixels (take n out)) e
-
-    pub paint-no : (n : ℕ) → ahead second w total s st ≡ refused n → x ≡ refused n
-    paint-no n e = painted ∙ ap (glue (take (st .i) out)) e
-
-  pub turned-as : (s : List ℕ) (st : State) (out out′ : List ℕ) {r r′ : Next} → r ≡ r′ → Turned second w total s st out out′ r → Turned second w total s st out out′ r′
-  turned-as s st out out′ e h = subst (λ r. Turned second w total s st out out′ r) e h

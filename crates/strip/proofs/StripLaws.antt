@@ -7,7 +7,7 @@ use native.Mathlib.Omega.{arith}
 use borrow.Author.Tests.{le-leb, lt-leb}
 use lib.ListN.{drop, set, replicate}
 use lib.Seq.{drop-set-lt, drop-drop}
-use Rattle.strip.specs.Strip.{minus, Move, refuse, go, opOf, measured, moveOf, Strip, refused, pixels, onto, glue, decode}
+use Rattle.strip.specs.Strip.{minus, Move, refuse, go, opOf, measured, moveOf, Strip, refused, pixels, madeOf, onto, glue, decode}
 
 -- what `wrapping_sub_u8` says is the difference modulo 256
 pub minus-of : (a b r : ℕ) → b < 2 ^ 8 → r < 2 ^ 8 → (r + b) % 2 ^ 8 ≡ a → minus a b ≡ r
@@ -50,6 +50,10 @@ drop-store out d i c e =
 pub glue-glue : (xs ys : List ℕ) (x : Strip) → glue xs (glue ys x) ≡ glue (xs ++ ys) x
 glue-glue xs ys (refused n) = refl
 glue-glue xs ys (pixels zs) = ap pixels (sym (append-assoc xs ys zs))
+
+pub made-glue : (xs : List ℕ) (y : Strip) → madeOf (glue xs y) ≡ madeOf y
+made-glue xs (refused n) = refl
+made-glue xs (pixels ys) = refl
 
 -- ---- pixels that are owed, and an operation that gives some
 

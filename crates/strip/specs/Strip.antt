@@ -77,6 +77,11 @@ pub data Strip : Type 0 where
   refused : ℕ → Strip
   pixels : List ℕ → Strip
 
+-- what it comes to without its values
+abbrev pub madeOf : Strip → Made
+madeOf (refused n) = Refused n
+madeOf (pixels xs) = All
+
 -- a value in front
 abbrev pub onto : ℕ → Strip → Strip
 onto x (refused n) = refused n

@@ -39,7 +39,7 @@ fn family(
     }
 }
 
-pub(crate) fn kind_of(code: u8) -> Kind
+pub fn kind_of(code: u8) -> Kind
     ensures { λ r. ⌜ (r ≡ kindOf code) × Width r ⌝ }
 {
     if code == 0x01 {

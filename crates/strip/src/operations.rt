@@ -44,7 +44,7 @@ fn length_of(second: bool, w: u32, hand: u64) -> u32
 }
 
 // Whether a run of the second method stands ahead: `11` and d = 4, which from bit 0 up is 19.
-pub(crate) fn run_at(second: bool, hand: u64) -> bool
+pub fn run_at(second: bool, hand: u64) -> bool
     ensures { λ r. ⌜ r ≡ runAhead second hand ⌝ }
 {
     second & (hand % 32 == 19)
@@ -86,7 +86,7 @@ fn second_op(st: State, w: u32) -> State
 }
 
 // The operation that starts with a 1 bit, where it isn't a run.
-pub(crate) fn op(second: bool, w: u32, st: State) -> State
+pub fn op(second: bool, w: u32, st: State) -> State
     requires { ⌜ (w ≤ 8) × (opLength second w (st .cur .hand) ≤ st .cur .have) × (st .cur .have ≤ 63) × (st .i < 1600) ⌝ }
     ensures { λ r. ⌜ (r .i ≡ st .i + 1) × (r .cur ≡ moved (opLength second w (st .cur .hand)) (st .cur)) × ((s : List ℕ) → st .cur .hand % 2 ≡ 1 → runAhead second (st .cur .hand) ≡ false → LeadsTo second w s st r) ⌝ }
 {
@@ -98,7 +98,7 @@ pub(crate) fn op(second: bool, w: u32, st: State) -> State
 }
 
 // k keeps.
-pub(crate) fn kept(st: State, k: u32) -> State
+pub fn kept(st: State, k: u32) -> State
     requires { ⌜ (k ≤ st .cur .have) × (st .cur .have ≤ 63) × (st .i < 1600) ⌝ }
     ensures { λ r. ⌜ r ≡ keptBy k st ⌝ }
 {
@@ -165,7 +165,7 @@ fn run(total: usize, st: State) -> Next
 }
 
 // The next operation, in a strip of `total` pixels.
-pub(crate) fn step(second: bool, w: u32, total: usize, st: State) -> Next
+pub fn step(second: bool, w: u32, total: usize, st: State) -> Next
     requires { ⌜ (w ≤ 8) × (st .cur .have ≤ 63) × (st .i < total) × (total ≤ 1600) ⌝ }
     ensures { λ r. ⌜ ((s : List ℕ) → Held s (st .cur) → Full s (st .cur) → Stepped second w total s st r) ⌝ }
 {
@@ -177,7 +177,7 @@ pub(crate) fn step(second: bool, w: u32, total: usize, st: State) -> Next
 }
 
 // The same place, with at least 56 bits in hand or all that are left.
-pub(crate) fn filled(body: &[u8], st: State) -> State
+pub fn filled(body: &[u8], st: State) -> State
     requires { ⌜ Held (now body) (st .cur) ⌝ }
     ensures { λ r. ⌜ (r .i ≡ st .i) × (r .colour ≡ st .colour) × (r .step ≡ st .step) × Held (now (body .entry)) (r .cur) × Full (now (body .entry)) (r .cur) × (rest (now (body .entry)) (r .cur) ≡ rest (now (body .entry)) (st .cur)) ⌝ }
 {
@@ -192,7 +192,7 @@ pub(crate) fn filled(body: &[u8], st: State) -> State
 }
 
 // Whether so many bits are in hand and so many pixels are left, and no run stands ahead.
-pub(crate) fn fits(second: bool, total: usize, bits: u32, pixels: usize, st: State) -> bool
+pub fn fits(second: bool, total: usize, bits: u32, pixels: usize, st: State) -> bool
     requires { ⌜ (st .i ≤ total) × (total ≤ 1600) × (pixels ≤ 100) ⌝ }
     ensures { λ r. ⌜ (r ≡ true → Fits second total bits pixels st) ⌝ }
 {

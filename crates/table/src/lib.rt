@@ -116,7 +116,7 @@ pub fn read_strip(
     requires { ⌜ (h ≤ 200) × (8 * h ≤ length (now out)) ⌝ }
     ensures { λ r. ⌜ Answered (stripAt n h (now (room .entry)) b z k) (now (out .entry)) (now (out .exit)) r ⌝ }
 {
-    strip::decode_strip(strip_body(room, false, n, b, z, k), h, out)
+    decode::decode_strip(strip_body(room, false, n, b, z, k), h, out)
 }
 
 // The rows of strip k of a ZP block whose table is right, into the first h bytes of `out`.
@@ -147,7 +147,7 @@ fn test_picture(room: &[u8], n: usize, h: usize, b: usize, z: usize, k: usize) -
     requires { ⌜ tableRight false n (now room) b z ≡ true ⌝ }
     ensures { λ r. ⌜ r ≡ stripTest false n h (now (room .entry)) b z k ⌝ }
 {
-    match strip::test::test_strip(strip_body(room, false, n, b, z, k), h) {
+    match decode::test::test_strip(strip_body(room, false, n, b, z, k), h) {
         Made::All => Test::Passed,
         Made::Refused(number) => Test::Refused(number),
     }

@@ -27,7 +27,7 @@ fn pixels(h: usize, body: &[u8])
 {
     let mut out = [0u8; 1600];
     let n = 8 * h;
-    match strip::decode_strip(body, h, &mut out) {
+    match decode::decode_strip(body, h, &mut out) {
         Answer::Drawn { clear: _ } => bytes(&out[..n]),
         Answer::Refused(number) => refused(number),
     }

@@ -1,6 +1,6 @@
 use Rattle.plane.proofs.MaskLaws.{rows-as, rows-done, tested-on}
 use Rattle.plane.specs.Mask.{literals, rowsOf}
-use Rattle.strip.specs.Tally.{madeOf}
+use Rattle.strip.specs.Strip.{madeOf}
 use denote.Ref.{now}
 use lib.ListN.{length, getD, take, drop, replicate}
 use borrow.Author.Needs.{needs}

@@ -1,7 +1,7 @@
 use Rattle.table.proofs.TestLaws.{tested-passes, tested-stops}
 use Rattle.table.specs.Test.{stripTest}
 use Rattle.table.specs.Body.{stripAt}
-use Rattle.strip.specs.Tally.{testOf}
+use Rattle.decode.specs.Tally.{testOf}
 use Rattle.strip.specs.Picture.{stripOf}
 use denote.Ref.{now}
 use mathlib.Core.Path.{sym, ap, _∙_}
@@ -10,7 +10,7 @@ use Rattle.table.proofs.test_picture.Statement.{statement}
 use Rattle.table.proofs.test_picture.Tie as tie
 use Rattle.table.proofs.test_picture.Reads as reads
 use Rattle.table.proofs.test_picture.Lts as lts
-use Rattle.strip.proofs.test.test_strip.Reads as test-strip-reads
+use Rattle.decode.proofs.test.test_strip.Reads as test-strip-reads
 use Rattle.table.proofs.strip_body.Reads as strip-body-reads
 
 -- src/lib.rt:150:35

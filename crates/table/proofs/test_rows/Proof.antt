@@ -2,7 +2,7 @@ use Rattle.table.proofs.TestLaws.{made-passes, unmade-stops, bodiless-p
 use Rattle.table.proofs.BodyLaws.{cell-room}
 use Rattle.table.specs.Body.{bodyOf}
 use Rattle.plane.specs.Mask.{rowsOf, literals}
-use Rattle.strip.specs.Tally.{madeOf}
+use Rattle.strip.specs.Strip.{madeOf}
 use denote.Ref.{now}
 use borrow.Author.Tests.{ne-eqb}
 use native.Mathlib.Omega.{arith}

@@ -8,12 +8,16 @@ use Rattle.strip.proofs.operations.run_pixels.Tie as tie
 use Rattle.strip.proofs.operations.run_pixels.Reads as reads
 use Rattle.strip.proofs.operations.run_pixels.Lts as lts
 
+pixels-none : (n : ℕ) → n ≡ 0 → 256 ≡ runPixels n
+pixels-none zero none = refl
+pixels-none (suc n) none = absurd (omega arith)
+
 pixels-some : (n : ℕ) → (n ≡ 0 → ⊥) → n ≡ runPixels n
 pixels-some zero some = absurd (some refl)
 pixels-some (suc n) some = refl
 
 returns : tie.Need-returns
-returns c = search needs
+returns c = (pixels-none _ (c .if1 .taken), omega arith, omega arith)
 
 returns-2 : tie.Need-returns-2
 returns-2 c = (pixels-some _ (c .if1 .left), omega arith, omega arith)

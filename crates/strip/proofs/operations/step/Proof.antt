@@ -1,4 +1,4 @@
-use Rattle.strip.proofs.RowLaws.{first-of, second-of}
+use Rattle.strip.proofs.PlaceLaws.{first-of, second-of}
 use Rattle.strip.specs.Place.{Stepped}
 use Prim.Native.Nat.{_%_}
 use lib.Dec.{eqb}

@@ -1,0 +1,5 @@
+pub mod PaintLaws
+pub mod TallyLaws
+pub mod LookLaws
+pub mod RowLaws
+pub mod PastLaws

@@ -1,0 +1,197 @@
+-- Laws of the test's steps: past a row's operations, past what a step gives, and from one place to the next.
+use mathlib.Core.Path.{_≡_, sym, ap, ap₂, _∙_, subst}
+use mathlib.Core.Bool.{Bool, true, false, cond}
+use mathlib.Core.List.{List, [], _∷_, _++_, append-assoc}
+use Prim.Native.Nat.{ℕ, zero, suc, _+_, _-_, _*_, _/_, _%_, _^_, _≤_, _<_}
+use native.Mathlib.Omega.{arith}
+use lib.Dec.{eqb}
+use lib.ListN.{getD, length, drop, length-append, replicate}
+use Rattle.bits.specs.Bits.{lowBits, bitsOf, rest, moved, Held}
+use Rattle.bits.proofs.BitLaws.{length-low, low-split, low-drop}
+use Rattle.strip.specs.declared.State.{State}
+use Rattle.strip.specs.declared.Next.{Next}
+use Rattle.strip.specs.declared.Next.the-variants.{Go, Refuse}
+use Rattle.strip.specs.declared.Made.{Made}
+use Rattle.strip.specs.declared.Made.the-variants.{All}
+use Rattle.strip.specs.Strip.{madeOf}
+use Rattle.decode.specs.Tally.{tally, Went, Tested}
+use Rattle.decode.specs.Look.{Row, nothing, after, threeBits, look, reach, Rows}
+use Rattle.strip.specs.Place.{ahead, Gives, Stepped, keptBy}
+use Rattle.decode.proofs.LookLaws.{look-passes}
+use Rattle.strip.proofs.StripLaws.{made-glue}
+use Rattle.strip.proofs.PlaceLaws.{gives-kept}
+use Rattle.decode.proofs.TallyLaws.{tally-is}
+
+-- ---- a row is small
+
+abbrev Bounded : Row → ℕ → Type 0
+Bounded r n = (r .bits ≤ n) × (r .pixels ≤ n) × (r .index ≤ 1)
+
+bounded-none : (n : ℕ) → Bounded nothing n
+bounded-none n = (omega arith, omega arith, omega arith)
+
+bounded-after : (j m n : ℕ) (r : Row) → j + m ≤ n → 1 ≤ j → Bounded r m → Bounded (after j r) n
+bounded-after j m n r h one s = (omega (arith, s .0), omega (arith, s .1), s .2)
+
+bounded-look : (second : Bool) (l : List Bool) → Bounded (look second l) (length l)
+unfolding look
+bounded-look second [] = bounded-none 0
+bounded-look second (false ∷ l) = bounded-after 1 (length l) (suc (length l)) (look second l) (omega arith) (omega arith) (bounded-look second l)
+bounded-look second (true ∷ []) = bounded-none 1
+bounded-look second (true ∷ false ∷ l) = (omega arith, omega arith, omega arith)
+bounded-look false (true ∷ true ∷ []) = bounded-none 2
+bounded-look false (true ∷ true ∷ a ∷ l) = bounded-after 3 (length l) (suc (suc (suc (length l)))) (look false l) (omega arith) (omega arith) (bounded-look false l)
+bounded-look true (true ∷ true ∷ []) = bounded-none 2
+bounded-look true (true ∷ true ∷ a ∷ []) = bounded-none 3
+bounded-look true (true ∷ true ∷ a ∷ b ∷ []) = bounded-none 4
+bounded-look true (true ∷ true ∷ a ∷ b ∷ c ∷ l) = go-on (bounded-look true l) (eqb (threeBits a b c) 4)
+  where
+    go-on : Bounded (look true l) (length l) → (q : Bool) → Bounded (cond q nothing (after 5 (look true l))) (suc (suc (suc (suc (suc (length l))))))
+    go-on again true = bounded-none (suc (suc (suc (suc (suc (length l))))))
+    go-on again false = bounded-after 5 (length l) (suc (suc (suc (suc (suc (length l)))))) (look true l) (omega arith) (omega arith) again
+
+pub index-few : (i w : ℕ) → i ≤ 1 → w ≤ 8 → i * (2 + w) ≤ 10
+index-few zero w h le = omega arith
+index-few (suc zero) w h le = omega arith
+index-few (suc (suc i)) w h le = absurd (omega arith)
+
+-- ---- past a row's operations
+
+module _ (second : Bool) (w : ℕ) (le : w ≤ 8) (s : List ℕ) (st : State) (enough : 18 ≤ st .cur .have) (t : List ℕ) (rows : Rows second t) where
+  abbrev v : ℕ
+  v = st .cur .hand
+
+  abbrev b : ℕ
+  b = st .cur .have
+
+  abbrev x : ℕ
+  x = v % 256
+
+  abbrev found : Row
+  found = look second (lowBits 8 x)
+
+  abbrev row : ℕ
+  row = getD t x 0
+
+  abbrev far : ℕ
+  far = row % 16 + row / 256 * (2 + w)
+
+  abbrev others : List Bool
+  others = lowBits (b - 8) (v / 256) ++ bitsOf (drop (st .cur .at) s)
+
+  bounds : Bounded found 8
+  bounds = subst (Bounded found) (length-low 8 x) (bounded-look second (lowBits 8 x))
+
+  parts : (row % 16 ≡ found .bits) × (row / 16 % 16 ≡ found .pixels) × (row / 256 ≡ found .index)
+  parts =
+      let e = rows .row x (omega arith) in
+      let s0 = bounds .0 in
+      let s1 = bounds .1 in
+      let s2 = bounds .2 in
+      (omega (arith, e), omega (arith, e), omega (arith, e))
+
+  far-is : far ≡ reach w found
+  far-is = ap₂ (λ (i j : ℕ). i + j * (2 + w)) (parts .0) (parts .2)
+
+  split : rest s (st .cur) ≡ lowBits 8 x ++ others
+  unfolding rest
+  split =
+      let e : b ≡ 8 + (b - 8) = omega arith in
+      ap (λ (k : ℕ). lowBits k v ++ bitsOf (drop (st .cur .at) s)) e
+      ∙ ap (λ (l : List Bool). l ++ bitsOf (drop (st .cur .at) s)) (low-split 8 (b - 8) v)
+      ∙ append-assoc (lowBits 8 x) (lowBits (b - 8) (v / 256)) (bitsOf (drop (st .cur .at) s))
+
+  dropped : (n : ℕ) → n ≤ b → drop n (rest s (st .cur)) ≡ rest s (moved n (st .cur))
+  unfolding rest
+  dropped n h =
+      let e : b ≡ n + (b - n) = omega arith in
+      ap (λ (k : ℕ). drop n (lowBits k v ++ bitsOf (drop (st .cur .at) s))) e ∙ low-drop n (b - n) v (bitsOf (drop (st .cur .at) s))
+
+  long : b ≤ length (rest s (st .cur))
+  unfolding rest
+  long = rw (length-append (lowBits b v) (bitsOf (drop (st .cur .at) s)), length-low b v) (omega arith)
+
+  pub past-went : (to : State) → to .i ≡ st .i + row / 16 % 16 → to .cur ≡ moved far (st .cur) → Went second w s st to
+  past-went to ei ec =
+      let bits = bounds .0 in
+      let step = index-few (found .index) w (bounds .2) le in
+      let few : reach w found ≤ 18 = omega (arith, bits, step) in
+      record {
+        on = λ k.
+            let m : to .i - st .i + k ≡ found .pixels + k = omega (arith, ei, parts .1) in
+            let lo : reach w found ≤ length (lowBits 8 x ++ others) = rw (← split) (omega (arith, few, long)) in
+            ap₂ (λ (j : ℕ) (l : List Bool). tally second w j 0 l) m split
+            ∙ look-passes second w (lowBits 8 x) others k lo
+            ∙ ap (tally second w k 0)
+            (ap₂ (λ (j : ℕ) (l : List Bool). drop j l) (sym far-is) (sym split) ∙ dropped far (omega (arith, far-is, few)) ∙ ap (rest s) (sym ec));
+      }
+
+-- ---- past what gives pixels of one colour
+
+module _ (second : Bool) (w total : ℕ) (s : List ℕ) (st : State) where
+  abbrev left : State → Made
+  left a = tally second w (total - a .i) 0 (rest s (a .cur))
+
+  made-left : (a : State) → madeOf (ahead second w total s a) ≡ left a
+  made-left a = tally-is second w (total - a .i) 0 (a .colour) (a .step) (rest s (a .cur))
+
+  pub tally-gives : (to : State) → Gives second w total s st to → left st ≡ left to
+  tally-gives to g = sym (made-left st) ∙ ap madeOf g ∙ made-glue (replicate (to .i - st .i) (to .colour)) (ahead second w total s to) ∙ made-left to
+
+  pub tally-stepped : (r : Next) → Stepped second w total s st r → Tested second w total s st r
+  tally-stepped (Go to) h = (h .0, h .1, h .2, tally-gives to (h .3))
+  tally-stepped (Refuse n) h = sym (made-left st) ∙ ap madeOf h
+
+pub kept-went : (second : Bool) (w : ℕ) (s : List ℕ) (st : State) (k : ℕ) → k ≤ st .cur .have → st .cur .hand % 2 ^ k ≡ 0 → Went second w s st (keptBy k st)
+kept-went second w s st k h z =
+    record {
+      on = λ n.
+          let total = st .i + k + n in
+          let a : st .i + k - st .i + n ≡ total - st .i = omega arith in
+          let c : total - (st .i + k) ≡ n = omega arith in
+          ap (λ (j : ℕ). tally second w j 0 (rest s (st .cur))) a
+          ∙ tally-gives second w total s st (keptBy k st) (gives-kept second w total s st k h z (omega arith))
+          ∙ ap (λ (j : ℕ). tally second w j 0 (rest s (moved k (st .cur)))) c;
+    }
+
+-- ---- one place after another
+
+pub went-on : (second : Bool) (w : ℕ) (s : List ℕ) (a b c : State) → a .i ≤ b .i → b .i ≤ c .i → Went second w s a b → Went second w s b c → Went second w s a c
+went-on second w s a b c h k f g =
+    record {
+      on = λ n.
+          let e : c .i - a .i + n ≡ b .i - a .i + (c .i - b .i + n) = omega arith in
+          ap (λ (j : ℕ). tally second w j 0 (rest s (a .cur))) e ∙ f .on (c .i - b .i + n) ∙ g .on n;
+    }
+
+pub went-total : (second : Bool) (w : ℕ) (s : List ℕ) (total : ℕ) (a to : State) → a .i ≤ to .i → to .i ≤ total → Went second w s a to
+    → tally second w (total - a .i) 0 (rest s (a .cur)) ≡ tally second w (total - to .i) 0 (rest s (to .cur))
+went-total second w s total a to h k f =
+    let e : total - a .i ≡ to .i - a .i + (total - to .i) = omega arith in
+    ap (λ (j : ℕ). tally second w j 0 (rest s (a .cur))) e ∙ f .on (total - to .i)
+
+-- the place `st` is the place `from`, with more bits in hand
+module _ (second : Bool) (w total : ℕ) (s : List ℕ) (from st : State) (ei : st .i ≡ from .i) (er : rest s (st .cur) ≡ rest s (from .cur)) where
+  same-left : left second w total s st from ≡ left second w total s st st
+  same-left = λ i. tally second w (total - sym ei i) 0 (sym er i)
+
+  pub tested-from : (r : Next) → Tested second w total s st r → Tested second w total s from r
+  tested-from (Go to) h = let more = h .0 in (omega (arith, more), h .1, h .2, same-left ∙ h .3)
+  tested-from (Refuse n) h = same-left ∙ h
+
+  pub tested-many : (to : State) → Went second w s st to → st .i < to .i → to .i ≤ total → Held s (to .cur) → Tested second w total s from (Go to)
+  tested-many to f some room held = tested-from (Go to) (some, room, held, went-total second w s total st to (omega arith) room f)
+
+-- ---- the test of a whole strip
+
+-- pixel 0 is the first colour
+pub tally-start : (second : Bool) (w total : ℕ) (l : List Bool) → 1 ≤ total → tally second w total 1 l ≡ tally second w (total - 1) 0 l
+unfolding tally
+tally-start second w total l h = let e : total ≡ suc (total - 1) = omega arith in ap (λ (n : ℕ). tally second w n 1 l) e
+
+pub tally-end : (second : Bool) (w n : ℕ) (l : List Bool) → n ≡ 0 → tally second w n 0 l ≡ All
+unfolding tally
+tally-end second w n l e = ap (λ (k : ℕ). tally second w k 0 l) e
+
+pub tested-as : (second : Bool) (w total : ℕ) (s : List ℕ) (st : State) {r r′ : Next} → r ≡ r′ → Tested second w total s st r → Tested second w total s st r′
+tested-as second w total s st e h = subst (λ r. Tested second w total s st r) e h

@@ -1,0 +1,32 @@
+use Rattle.strip.proofs.PictureLaws.{raw-short, raw-full}
+use Rattle.decode.specs.Tally.{testOf}
+use denote.Ref.{now}
+use mathlib.Core.Path.{sym, ap}
+use native.Mathlib.Omega.{arith}
+use lib.ListN.{drop, length-drop}
+use borrow.Author.Needs.{needs}
+use Rattle.decode.proofs.test.test_raw.Statement.{statement}
+use Rattle.decode.proofs.test.test_raw.Tie as tie
+use Rattle.decode.proofs.test.test_raw.Reads as reads
+use Rattle.decode.proofs.test.test_raw.Lts as lts
+
+sub-if1 : tie.Need-sub-if1
+sub-if1 c = search needs
+
+mul-if1 : tie.Need-mul-if1
+mul-if1 c = search needs
+
+returns : tie.Need-returns
+returns c =
+    let a = c .before .args in
+    let body = now (a .body) in
+    sym (ap testOf (raw-short (a .h) (drop 1 body) (omega (arith, length-drop 1 body, c .if1 .taken))))
+
+returns-2 : tie.Need-returns-2
+returns-2 c =
+    let a = c .before .args in
+    let body = now (a .body) in
+    sym (ap testOf (raw-full (a .h) (drop 1 body) (omega (arith, length-drop 1 body, c .if1 .left))))
+
+pub test-raw-spec : {M : Type 1} → statement M
+test-raw-spec = tie.close (tie.spec sub-if1 mul-if1 returns returns-2)

@@ -1,0 +1,166 @@
+// The test of a strip: its operations without their colours, many at once by a table of rows.
+ghost use mathlib.Core.Path.{_≡_};
+ghost use mathlib.Core.Bool.{Bool, true};
+ghost use mathlib.Core.List.{List};
+ghost use Prim.Native.Nat.{ℕ, _+_, _*_, _/_, _%_, _≤_, _<_};
+ghost use lib.ListN.{length, drop, getD};
+ghost use Rattle.bits.specs.Bits.{Held, bitsOf};
+ghost use Rattle.strip.specs.Picture.{rawOf, codedOf, stripOf};
+ghost use Rattle.decode.specs.Look.{Rows, Small};
+ghost use Rattle.decode.specs.Tally.{tally, testOf, Went, Tested};
+use crate::rows::first_rows;
+use crate::rows::second_rows;
+use bits::Cursor;
+use strip::Kind;
+use strip::Made;
+use strip::Next;
+use strip::State;
+use strip::codes::kind_of;
+use strip::operations::filled;
+use strip::operations::fits;
+use strip::operations::kept;
+use strip::operations::step;
+
+fn wide(x: u16) -> usize
+    ensures { λ r. ⌜ r ≡ x ⌝ }
+{
+    x as usize
+}
+
+fn byte(v: u64) -> usize
+    ensures { λ r. ⌜ (r ≡ v % 256) × (r < 256) ⌝ }
+{
+    (v % 256) as usize
+}
+
+// How many bits a row's operations take.
+fn reach_of(row: usize, w: u32) -> u32
+    requires { ⌜ (row % 16 ≤ 8) × (row / 256 ≤ 1) × (w ≤ 8) ⌝ }
+    ensures { λ r. ⌜ (r ≡ row % 16 + row / 256 * (2 + w)) × (r ≤ 18) ⌝ }
+{
+    let bits = (row % 16) as u32;
+    if row < 256 { bits } else { bits + (2 + w) }
+}
+
+// Past the whole operations at the front of the next eight bits.
+fn past(rows: &[u16], w: u32, st: State) -> State
+    requires { ⌜ (256 ≤ length (now rows)) × ((x : ℕ) → x < 256 → Small (getD (now rows) x 0)) × (w ≤ 8) × (18 ≤ st .cur .have) × (st .cur .have ≤ 63) × (st .i < 1600) ⌝ }
+    ensures { λ r. ⌜ (st .cur .have ≤ r .cur .have + 18) × (r .cur .have ≤ 63) × (st .i ≤ r .i) × (r .i ≤ st .i + 8) × ((s : List ℕ) → Held s (st .cur) → Held s (r .cur)) × ((second : Bool) (s : List ℕ) → Rows second (now (rows .entry)) → Went second w s st r) ⌝ }
+{
+    let cur = st.cur;
+    let row = wide(rows[byte(cur.hand)]);
+    let next = cur.take(reach_of(row, w)).next;
+    State {
+        i: st.i + row / 16 % 16,
+        colour: st.colour,
+        step: st.step,
+        cur: next,
+    }
+}
+
+// Past many operations: 32 keeps at once, or three rows.
+fn looks(rows: &[u16], w: u32, st: State) -> State
+    requires { ⌜ (256 ≤ length (now rows)) × ((x : ℕ) → x < 256 → Small (getD (now rows) x 0)) × (w ≤ 8) × (54 ≤ st .cur .have) × (st .cur .have ≤ 63) × (st .i + 32 ≤ 1600) ⌝ }
+    ensures { λ r. ⌜ (st .i ≤ r .i) × (r .i ≤ st .i + 32) × ((s : List ℕ) → Held s (st .cur) → Held s (r .cur)) × ((second : Bool) (s : List ℕ) → Rows second (now (rows .entry)) → Went second w s st r) ⌝ }
+{
+    let cur = st.cur;
+    if cur.hand % 4294967296 == 0 {
+        return kept(st, 32);
+    }
+    let one = past(rows, w, st);
+    let two = past(rows, w, one);
+    past(rows, w, two)
+}
+
+// Past as many operations as the bits in hand and the pixels left allow, or past one. A row takes at most eight bits and an index of ten.
+fn turn(body: &[u8], second: bool, w: u32, total: usize, rows: &[u16], from: State) -> Next
+    requires { ⌜ (w ≤ 8) × Held (now body) (from .cur) × (from .i < total) × (total ≤ 1600) × (256 ≤ length (now rows)) × Rows second (now rows) ⌝ }
+    ensures { λ r. ⌜ Tested second w total (now (body .entry)) from r ⌝ }
+{
+    let st = filled(body, from);
+    if fits(second, total, 54, 32, st) {
+        let to = looks(rows, w, st);
+        if st.i < to.i {
+            return Next::Go(to);
+        }
+    }
+    if fits(second, total, 18, 9, st) {
+        let to = past(rows, w, st);
+        if st.i < to.i {
+            return Next::Go(to);
+        }
+    }
+    step(second, w, total, st)
+}
+
+// The test of the operations of a body, whose first colour is pixel 0. No refusal depends on a colour or a step, so any will do.
+pub(crate) fn test_bits(body: &[u8], second: bool, w: u32, total: usize, rows: &[u16]) -> Made
+    requires { ⌜ (w ≤ 8) × (1 ≤ total) × (total ≤ 1600) × (2 ≤ length (now body)) × (256 ≤ length (now rows)) × Rows second (now rows) ⌝ }
+    ensures { λ r. ⌜ r ≡ tally second w total 1 (bitsOf (drop 2 (now (body .entry)))) ⌝ }
+{
+    let mut st = State {
+        i: 1,
+        colour: 0,
+        step: 0,
+        cur: Cursor::new(2),
+    };
+    while st.i < total {
+        match turn(body, second, w, total, rows, st) {
+            Next::Go(to) => {
+                st = to;
+            }
+            Next::Refuse(n) => {
+                return Made::Refused(n);
+            }
+        }
+    }
+    Made::All
+}
+
+fn test_raw(body: &[u8], h: usize) -> Made
+    requires { ⌜ (h ≤ 200) × (1 ≤ length (now body)) ⌝ }
+    ensures { λ r. ⌜ r ≡ testOf (rawOf h (drop 1 (now (body .entry)))) ⌝ }
+{
+    if body.len() - 1 < 8 * h {
+        return Made::Refused(7);
+    }
+    Made::All
+}
+
+fn test_coded(body: &[u8], second: bool, w: u32, h: usize) -> Made
+    requires { ⌜ (1 ≤ w) × (w ≤ 8) × (h ≤ 200) × (1 ≤ length (now body)) ⌝ }
+    ensures { λ r. ⌜ ((vertical clear : Bool) → r ≡ testOf (codedOf second vertical clear w h (drop 1 (now (body .entry))))) ⌝ }
+{
+    if body.len() < 2 {
+        return Made::Refused(7);
+    }
+    if h == 0 {
+        return Made::All;
+    }
+    if second {
+        let rows = second_rows();
+        return test_bits(body, true, w, 8 * h, &rows);
+    }
+    let rows = first_rows();
+    test_bits(body, false, w, 8 * h, &rows)
+}
+
+// The test of one strip body of h rows: whether it has a picture, or the number of its refusal.
+pub fn test_strip(body: &[u8], h: usize) -> Made
+    requires { ⌜ h ≤ 200 ⌝ }
+    ensures { λ r. ⌜ r ≡ testOf (stripOf h (now (body .entry))) ⌝ }
+{
+    if body.len() < 1 {
+        return Made::Refused(7);
+    }
+    match kind_of(body[0]) {
+        Kind::Raw => test_raw(body, h),
+        Kind::Coded {
+            second,
+            vertical: _,
+            clear: _,
+            width,
+        } => test_coded(body, second, width, h),
+        Kind::Unknown => Made::Refused(6),
+    }
+}
