@@ -27,7 +27,7 @@ use Rattle.blocks.proofs.PlacedLaws.{most, startOf, Placed, none-is, of
 
 -- ---- the bytes of a strip
 
-up-get : (f : ℕ → ℕ) (n i : ℕ) → i < n → getD (upTo f n) i 0 ≡ f i
+pub up-get : (f : ℕ → ℕ) (n i : ℕ) → i < n → getD (upTo f n) i 0 ≡ f i
 up-get f zero i h = absurd (omega arith)
 up-get f (suc n) i h = go (ltb i n) refl (up-get f n i)
   where

@@ -17,6 +17,7 @@ demand2 =
       );
       raw-loaded = reads.raw-loaded;
       raw-strip = reads.raw-strip;
+      coded-loaded = reads.coded-loaded;
       run-gives = reads.run-gives;
       run-cut = reads.run-cut;
     }

@@ -10,10 +10,12 @@ use mathlib.Core.Bool.{Bool, true, false}
 use mathlib.Core.List.{List, _∷_, _++_}
 use mathlib.Core.Logic.{_↔_, _⊎_}
 use lib.IntN.{ℤ, pos, _+ℤ_}
-use lib.ListN.{length, getD, take, replicate}
-use Rattle.bits.specs.Bits.{lowBits}
-use Rattle.strip.specs.Strip.{refused, glue, decode}
-use Rattle.strip.specs.Picture.{refusal, picture, stripOf}
+use lib.ListN.{length, getD, take, drop, replicate}
+use Rattle.bits.specs.Bits.{lowBits, bitsOf}
+use Rattle.strip.specs.Strip.{Strip, refused, glue, decode}
+use Rattle.strip.specs.Strip as strip
+use Rattle.strip.specs.Picture.{kindOf, sourceOf, refusal, picture, stripOf}
+use Rattle.strip.specs.declared.Kind.the-variants.{Coded}
 use Rattle.table.specs.Body.{bodyOf, pixelAt, maskAt}
 use Rattle.room.specs.Test.{strips}
 use Rattle.room.specs.declared.Room.{Room}
@@ -35,6 +37,10 @@ Behind masks w h n clip x y = (1 ≤ clip) × (clip ≤ n) × (maskBit masks w h
 -- the body of strip k of a room's background
 abbrev pub bodyIn : List ℕ → Room → ℕ → List ℕ
 bodyIn room r k = bodyOf false (strips r) room (r .smap) (r .«smap_end») k
+
+-- the pixels of a body of h rows, in the order in which they are made: the first colour, then what the bits after it give
+abbrev pub operations : Bool → (width h : ℕ) → List ℕ → Strip
+operations second width h body = decode second width (8 * h) 1 (getD body 1 0) 1 (bitsOf (drop 2 body))
 
 -- a run's bits up to its number: `11` and d = 4
 abbrev pub runHead : List Bool
@@ -69,6 +75,14 @@ pub record Demand2 : Type 0 where
   -- and of every strip, an image's too: 7 for fewer than 1 + 8H bytes, else its pixels are the 8H bytes after the code, and opaque
   pub raw-strip : (h : ℕ) (t : List ℕ) → (length t < 8 * h → stripOf h (0x01 ∷ t) ≡ refusal 7)
       × (8 * h ≤ length t → stripOf h (0x01 ∷ t) ≡ picture false (take (8 * h) t))
+  -- the other codes: the pixels that kg_load leaves of a strip are those that its operations give from the first colour on, `decode`'s, each where
+  -- the code's order has it
+  pub coded-loaded : (room session pixels masks : List ℕ) (r : Room) → Right r ≡ loadTest room session pixels masks
+      → (x y : ℕ) → x < r .width → y < r .height
+      → (second vertical clear : Bool) (width : ℕ) → kindOf (getD (bodyIn room r (x / 8)) 0 0) ≡ Coded second vertical clear width
+      → (xs : List ℕ)
+      × (operations second width (r .height) (bodyIn room r (x / 8)) ≡ strip.pixels xs)
+      × (getD (pixelsAfter room (loadTest room session pixels masks) pixels) (y * r .width + x) 0 ≡ getD xs (sourceOf vertical (r .height) (8 * y + x % 8)) 0)
   -- a run, wherever in a strip its bits stand, with k pixels still to come: it gives its pixels in the colour c, and the operations after it
   -- give the others; 8 where it is longer than what is to come
   pub run-gives : (width k n m c step : ℕ) (l : List Bool) → RunGives n m

@@ -1,5 +1,5 @@
 // Strips of pixels (document 01, "Strips of pixels"): what a strip's code and its operations mean, and the operations themselves, from one
-// place of a strip to the next. Crate pixels paints and tests whole strips by them.
+// place of a strip to the next. Crate decode paints and tests whole strips by them.
 pub mod codes;
 pub mod filling;
 pub mod operations;
