@@ -2,17 +2,16 @@
 -- strip as the reader's definitions (crate table) read it.
 use mathlib.Core.Path.{_≡_, refl, sym, ap, ap₂, _∙_, subst}
 use mathlib.Core.Bool.{Bool, true, false, cond}
-use mathlib.Core.List.{List, [], _∷_, _++_}
+use mathlib.Core.List.{List}
 use Prim.Native.Nat.{ℕ, zero, suc, _+_, _*_, _/_, _%_, _≤_, _<_, zero-le}
 use native.Mathlib.Nat.{one-mul, div-one, mod-one}
 use native.Mathlib.Omega.{arith}
-use lib.ListN.{length, getD, replicate, length-append, List·getD-append, List·getD-eq-default}
-use lib.Seq.{getD-at}
+use lib.ListN.{length, getD, replicate, length-append, List·getD-eq-default}
 use lib.Dec.{lit<, ltb, eqb}
 use borrow.Author.Tests.{ltb-true, ltb-false, eq-eqb, ne-eqb}
 use Rattle.strip.specs.Strip.{pixels}
 use Rattle.strip.specs.Picture.{upTo, picture, stripOf}
-use Rattle.strip.proofs.PictureLaws.{length-upTo}
+use Rattle.strip.proofs.PictureLaws.{length-upTo, getD-upTo}
 use Rattle.plane.specs.Mask.{rowsOf, literals}
 use Rattle.table.specs.Table.{offsetAt}
 use Rattle.table.specs.Body.{bodyOf, stripAt, rowsAt}
@@ -27,17 +26,6 @@ use Rattle.blocks.proofs.PlacedLaws.{most, startOf, Placed, none-is, of
 
 -- ---- the bytes of a strip
 
-pub up-get : (f : ℕ → ℕ) (n i : ℕ) → i < n → getD (upTo f n) i 0 ≡ f i
-up-get f zero i h = absurd (omega arith)
-up-get f (suc n) i h = go (ltb i n) refl (up-get f n i)
-  where
-    go : (t : Bool) → ltb i n ≡ t → (i < n → getD (upTo f n) i 0 ≡ f i) → getD (upTo f n ++ (f n ∷ [])) i 0 ≡ f i
-    go true e k = let lt = ltb-true i n e in List·getD-append (upTo f n) (f n ∷ []) 0 i (omega (arith, length-upTo f n)) ∙ k lt
-    go false e k =
-        let ge = ltb-false i n e in
-        let g : i ≡ n = omega arith in
-        ap (λ (k : ℕ). getD (upTo f n ++ (f n ∷ [])) k 0) g ∙ getD-at (upTo f n) (f n) [] 0 n (length-upTo f n) ∙ ap f (sym g)
-
 strip-of-bytes : (own wide h : ℕ) (rows : List ℕ) (k : ℕ) → Bytes rows → Bytes (stripBytes own wide h rows k)
 unfolding stripBytes
 strip-of-bytes own wide h rows k b i = go (ltb i (own * h)) refl
@@ -46,7 +34,7 @@ strip-of-bytes own wide h rows k b i = go (ltb i (own * h)) refl
     f j = getD rows (placeOf own wide k j) 0
 
     go : (t : Bool) → ltb i (own * h) ≡ t → getD (upTo f (own * h)) i 0 < 256
-    go true e = subst (λ (x : ℕ). x < 256) (sym (up-get f (own * h) i (ltb-true i (own * h) e))) (b (placeOf own wide k i))
+    go true e = subst (λ (x : ℕ). x < 256) (sym (getD-upTo f (own * h) i (ltb-true i (own * h) e))) (b (placeOf own wide k i))
     go false e =
         let out : length (upTo f (own * h)) ≤ i = omega (arith, length-upTo f (own * h), ltb-false i (own * h) e) in
         subst (λ (x : ℕ). x < 256) (sym (List·getD-eq-default (upTo f (own * h)) 0 out)) (lit< tt)
@@ -57,14 +45,14 @@ unfolding stripBytes
 pixel-at n h x y rows hx hy =
     let q : (8 * y + x % 8) / 8 ≡ y = omega arith in
     let r : 8 * (x / 8) + (8 * y + x % 8) % 8 ≡ x = omega arith in
-    up-get (λ i. getD rows (placeOf 8 (8 * n) (x / 8) i) 0) (8 * h) (8 * y + x % 8) (omega arith)
+    getD-upTo (λ i. getD rows (placeOf 8 (8 * n) (x / 8) i) 0) (8 * h) (8 * y + x % 8) (omega arith)
     ∙ ap₂ (λ (a b : ℕ). getD rows (a * (8 * n) + b) 0) q r
 
 pub row-at : (n h k y : ℕ) (rows : List ℕ) → y < h → getD (rowsOfStrip n h rows k) y 0 ≡ getD rows (y * n + k) 0
 unfolding stripBytes
 row-at n h k y rows hy =
     let r : 1 * k + y % 1 ≡ k = omega (arith, mod-one y) in
-    up-get (λ i. getD rows (placeOf 1 n k i) 0) (1 * h) y (omega arith) ∙ ap₂ (λ (a b : ℕ). getD rows (a * n + b) 0) (div-one y) r
+    getD-upTo (λ i. getD rows (placeOf 1 n k i) 0) (1 * h) y (omega arith) ∙ ap₂ (λ (a b : ℕ). getD rows (a * n + b) 0) (div-one y) r
 
 -- ---- the offsets can hold the places: at most 520 + 128 * 2,048 bytes of an SMAP, and 264 + 128 * 400 < 65,536 of a ZP
 

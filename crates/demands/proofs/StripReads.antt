@@ -1,5 +1,5 @@
 -- What a load leaves of raw strips and of coded ones, and what a run gives (change request 5), from the laws of crates bits, strip, grid, paint,
--- room, load and blocks.
+-- room and load.
 use mathlib.Core.Path.{_≡_, refl, sym, ap, _∙_}
 use mathlib.Core.Bool.{Bool, true, false}
 use mathlib.Core.List.{List, [], _∷_, _++_}
@@ -21,7 +21,7 @@ use Rattle.strip.specs.Picture.{sourceOf, upTo, placed, Picture, refusal, pictu
 use Rattle.strip.specs.declared.Kind.{Kind}
 use Rattle.strip.specs.declared.Kind.the-variants.{Raw, Coded}
 use Rattle.strip.proofs.StripLaws.{decode-op, decode-past, decode-refuse}
-use Rattle.strip.proofs.PictureLaws.{raw-short, raw-full, coded-none, coded-some, strip-none, strip-some}
+use Rattle.strip.proofs.PictureLaws.{getD-upTo, raw-short, raw-full, coded-none, coded-some, strip-none, strip-some}
 use Rattle.table.specs.Body.{stripAt, pixelsOf, pixelAt}
 use Rattle.table.specs.Test.{pictureTest, stripTest}
 use Rattle.table.specs.declared.Test.the-variants.{Passed}
@@ -32,7 +32,6 @@ use Rattle.room.specs.declared.Tested.the-variants.{Right}
 use Rattle.room.proofs.TestLaws.{test-passes, surfaces-long}
 use Rattle.load.specs.Load.{sessionSize, background, loadedPixels, loadTest, pixelsAfter}
 use Rattle.load.proofs.LoadLaws.{background-passes}
-use Rattle.blocks.proofs.BackLaws.{up-get}
 use Rattle.demands.specs.Demand2.{bodyIn, operations, runHead, RunGives}
 
 -- ---- raw strips
@@ -86,7 +85,7 @@ raw-pixel h s code passed j lt =
 
 placed-pixel : (vertical : Bool) (h : ℕ) (xs : List ℕ) (j : ℕ) → j < 8 * h → getD (placed vertical h xs) j 0 ≡ getD xs (sourceOf vertical h j) 0
 unfolding placed
-placed-pixel vertical h xs j lt = up-get (λ i. getD xs (sourceOf vertical h i) 0) (8 * h) j lt
+placed-pixel vertical h xs j lt = getD-upTo (λ i. getD xs (sourceOf vertical h i) 0) (8 * h) j lt
 
 shown-pixel : (vertical clear : Bool) (h : ℕ) (x : Strip) → pictureTest (shown vertical clear h x) ≡ Passed → (j : ℕ) → j < 8 * h
     → (xs : List ℕ) × (x ≡ pixels xs) × (getD (pixelsOf (shown vertical clear h x)) j 0 ≡ getD xs (sourceOf vertical h j) 0)

@@ -6,9 +6,9 @@ use Prim.Native.Nat.{ℕ, zero, suc, _+_, _-_, _*_, _/_, _%_, _≤_, _<_}
 use native.Mathlib.Nat.{mul-le-mul-right, add-mul, le-of-eq}
 use native.Mathlib.Numerals.{add-one}
 use native.Mathlib.Omega.{arith}
-use borrow.Author.Tests.{ltb-false, leb-true, lt-ltb, le-ltb}
-use lib.ListN.{length, getD, take, drop, set, length-append, length-drop, take-append-drop}
-use lib.Seq.{take-suc-set, take-all, getD-take}
+use borrow.Author.Tests.{ltb-true, ltb-false, leb-true, lt-ltb, le-ltb}
+use lib.ListN.{length, getD, take, drop, set, length-append, length-drop, take-append-drop, List·getD-append}
+use lib.Seq.{take-suc-set, take-all, getD-take, getD-at}
 use lib.Dec.{leb, ltb}
 use Rattle.strip.specs.declared.Answer.{Answer}
 use Rattle.strip.specs.declared.Answer.the-variants.{Drawn, Refused}
@@ -51,6 +51,17 @@ next-column h y c at e =
 pub length-upTo : (f : ℕ → ℕ) (n : ℕ) → length (upTo f n) ≡ n
 length-upTo f zero = refl
 length-upTo f (suc n) = length-append (upTo f n) (f n ∷ []) ∙ ap (λ (k : ℕ). k + 1) (length-upTo f n) ∙ add-one n
+
+pub getD-upTo : (f : ℕ → ℕ) (n i : ℕ) → i < n → getD (upTo f n) i 0 ≡ f i
+getD-upTo f zero i h = absurd (omega arith)
+getD-upTo f (suc n) i h = go (ltb i n) refl (getD-upTo f n i)
+  where
+    go : (t : Bool) → ltb i n ≡ t → (i < n → getD (upTo f n) i 0 ≡ f i) → getD (upTo f n ++ (f n ∷ [])) i 0 ≡ f i
+    go true e k = let lt = ltb-true i n e in List·getD-append (upTo f n) (f n ∷ []) 0 i (omega (arith, length-upTo f n)) ∙ k lt
+    go false e k =
+        let ge = ltb-false i n e in
+        let g : i ≡ n = omega arith in
+        ap (λ (k : ℕ). getD (upTo f n ++ (f n ∷ [])) k 0) g ∙ getD-at (upTo f n) (f n) [] 0 n (length-upTo f n) ∙ ap f (sym g)
 
 pub upTo-store : (f : ℕ → ℕ) (out : List ℕ) (j v : ℕ) → j < length out → take j out ≡ upTo f j → f j ≡ v → take (j + 1) (set out j v) ≡ upTo f (j + 1)
 upTo-store f out j v h e g =
