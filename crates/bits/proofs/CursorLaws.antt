@@ -1,21 +1,22 @@
--- Laws of a cursor: the bits left are the same whatever of them is in hand, and bits that are taken come from their front.
-use mathlib.Core.Path.{_≡_, sym, ap, _∙_, subst}
+-- Laws of a cursor: the bits left are the same whatever of them is in hand, and bits that are handed out come from their front.
+use mathlib.Core.Path.{_≡_, refl, sym, ap, _∙_, subst}
 use mathlib.Core.Bool.{Bool}
 use mathlib.Core.List.{List, [], _∷_, _++_, append-assoc}
 use Prim.Native.Nat.{ℕ, zero, suc, _+_, _-_, _*_, _/_, _%_, _^_, _≤_, _<_}
-use native.Mathlib.Nat.{one-mul, mod-eq-of-lt, lt-of-le-of-lt}
+use native.Mathlib.Nat.{add-zero, one-mul, mod-eq-of-lt, lt-of-le-of-lt}
 use native.Mathlib.Numerals.{add-one}
 use native.Mathlib.Omega.{arith}
 use lib.Arith.{digits-lt}
-use lib.Dec.{lit<}
-use lib.ListN.{getD, length, drop}
+use lib.Dec.{eqb, lit<}
+use lib.ListN.{getD, length, drop, length-append, drop-of-length-le}
 use lib.Pow.{pow-add, pow-mono, shr-lt, shl-exact}
 use lib.Seq.{drop-cons, drop-drop, drop-at, drop-nil}
 use mir.Val.{Fits}
 use mir.Syntax.{w8}
 use Rattle.bits.specs.declared.Cursor.{Cursor}
-use Rattle.bits.specs.Bits.{lowBits, bitsOf, rest, wordAt, Held, moved}
-use Rattle.bits.proofs.BitLaws.{low-join, low-split, low-drop, length-low}
+use Rattle.bits.specs.Bits.{lowBits, bitsOf, got, pull, rest, wordAt, Held, Full}
+use Rattle.bits.specs.Reader.{Fetches, Hands, Shows, One}
+use Rattle.bits.proofs.BitLaws.{pull-low, low-join, low-split, low-drop, length-low, got-value, got-tail, pull-is, pull-drop}
 
 -- ---- bytes
 
@@ -59,16 +60,74 @@ drop-bytes (suc a) (b ∷ s) =
     ∙ ap (drop (8 * a)) (drop-at (lowBits 8 b) (bitsOf s) 8 (length-low 8 b))
     ∙ drop-bytes a s
 
--- ---- bits that are taken
+-- ---- bits that are handed out
 
-pub moved-held : (s : List ℕ) (c : Cursor) (n : ℕ) → n ≤ c .have → Held s c → Held s (moved n c)
-moved-held s c n le held =
+-- the low n bits in hand
+pub hands-low : (c : Cursor) (n : ℕ) → n ≤ c .have → Hands n (c .hand % 2 ^ n) c (record { at = c .at; have = c .have - n; hand = c .hand / 2 ^ n })
+unfolding rest
+hands-low c n le =
     let back : c .have ≡ c .have - n + n = omega arith in
     record {
-      few = omega (arith, held .few);
-      low = shr-lt (c .have - n) n (subst (λ (k : ℕ). c .hand < 2 ^ k) back (held .low));
-      inside = held .inside;
+      fewer = sym back;
+      still = refl;
+      front = λ s. pull-low n (c .have) (c .hand) (bitsOf (drop (c .at) s)) le;
+      held = λ s held. record {
+        few = omega (arith, held .few);
+        low = shr-lt (c .have - n) n (subst (λ (k : ℕ). c .hand < 2 ^ k) back (held .low));
+        inside = held .inside;
+      };
     }
+
+pub shows-low : (c : Cursor) (n : ℕ) → n ≤ c .have → Shows n (c .hand % 2 ^ n) c
+unfolding rest
+shows-low c n le = λ s. (_, pull-low n (c .have) (c .hand) (bitsOf (drop (c .at) s)) le)
+
+module _ (n v : ℕ) (c d : Cursor) (h : Hands n v c d) where
+  enough : n ≤ c .have
+  enough = omega (arith, h .fewer)
+
+  -- the same bits, found in hand
+  same-front : (s : List ℕ) → got v (rest s d) ≡ got (c .hand % 2 ^ n) (lowBits (c .have - n) (c .hand / 2 ^ n) ++ bitsOf (drop (c .at) s))
+  unfolding rest
+  same-front s = sym (h .front s) ∙ pull-low n (c .have) (c .hand) (bitsOf (drop (c .at) s)) enough
+
+  pub hands-zeros : c .hand % 2 ^ n ≡ 0 → Hands n 0 c d
+  hands-zeros z = subst (λ (x : ℕ). Hands n x c d) (got-value (same-front []) ∙ z) h
+
+  pub hands-one : n < c .have → c .hand / 2 ^ n % 2 ≡ 1 → (s : List ℕ) → One (rest s d)
+  unfolding lowBits
+  hands-one more one s =
+      let k : c .have - n ≡ suc (c .have - n - 1) = omega arith in
+      let t = bitsOf (drop (c .at) s) in (
+        _,
+        got-tail (same-front s)
+            ∙ ap (λ (j : ℕ). lowBits j (c .hand / 2 ^ n) ++ t) k
+            ∙ ap (λ (x : ℕ). eqb x 1 ∷ (lowBits (c .have - n - 1) (c .hand / 2 ^ n / 2) ++ t)) one,
+      )
+
+-- n bits are a number of n bits
+pub hands-small : {n v : ℕ} {c d : Cursor} → Hands n v c d → v < 2 ^ n
+hands-small {n} {v} {c} {d} h = pull-is n v (rest [] c) (rest [] d) (h .front []) .1
+
+-- what is seen behind k bits is what stands between there and behind k + n bits
+pub hands-shows : (k n v u x : ℕ) (c b d : Cursor) → Hands k v c b → Hands (k + n) u c d → Shows n x b → (s : List ℕ) → pull n (rest s b) ≡ got x (rest s d)
+hands-shows k n v u x c b d h g seen s =
+    let p = seen s in
+    let after : p .0 ≡ rest s d =
+    pull-drop n x (rest s b) (p .0) (p .1)
+    ∙ ap (drop n) (pull-drop k v (rest s c) (rest s b) (h .front s))
+    ∙ drop-drop n k (rest s c)
+    ∙ sym (pull-drop (k + n) u (rest s c) (rest s d) (g .front s)) in
+    p .1 ∙ ap (got x) after
+
+-- a full cursor that holds fewer than 56 bits holds all that are left
+pub all-in-hand : (s : List ℕ) (c : Cursor) → Full s c → c .have < 56 → length (rest s c) ≡ c .have
+unfolding rest bitsOf
+all-in-hand s c full few =
+    ap (λ (l : List ℕ). length (lowBits (c .have) (c .hand) ++ bitsOf l)) (drop-of-length-le s (full few))
+    ∙ length-append (lowBits (c .have) (c .hand)) []
+    ∙ ap (λ (k : ℕ). k + 0) (length-low (c .have) (c .hand))
+    ∙ add-zero (c .have)
 
 pub size-of : (n : ℕ) → n ≤ 63 → 1 * 2 ^ n % 2 ^ 64 ≡ 2 ^ n
 size-of n le = simp one-mul (mod-eq-of-lt (lt-of-le-of-lt (pow-mono le) (lit< tt)))
@@ -91,12 +150,24 @@ module _ (s : List ℕ) (c : Cursor) (held : Held s c) (at m v : ℕ) (few : c .
   abbrev more : Cursor
   more = record { at = at; have = c .have + m; hand = c .hand + v * 2 ^ c .have }
 
-  pub more-held : Held s more
-  more-held = record { few = few; low = whole; inside = inside }
-
-  pub more-rest : bitsOf (drop (c .at) s) ≡ lowBits m v ++ bitsOf (drop at s) → rest s more ≡ rest s c
+  more-rest : bitsOf (drop (c .at) s) ≡ lowBits m v ++ bitsOf (drop at s) → rest s more ≡ rest s c
   unfolding rest
   more-rest e = sym (join (c .have) m (c .hand) v (bitsOf (drop at s)) (bitsOf (drop (c .at) s)) (held .low) e)
+
+  -- the bits of the bytes between
+  pub more-fetched : c .at ≤ at → m ≡ 8 * (at - c .at) → bitsOf (drop (c .at) s) ≡ lowBits m v ++ bitsOf (drop at s) → Fetches s c more
+  more-fetched on eight e =
+      record { on = on; eight = ap (λ (k : ℕ). c .have + k) eight; same = more-rest e; held = record { few = few; low = whole; inside = inside } }
+
+-- one fetch after another
+pub fetches-on : (s : List ℕ) (b c d : Cursor) → Fetches s b c → Fetches s c d → Fetches s b d
+fetches-on s b c d f g =
+    record {
+      on = omega (arith, f .on, g .on);
+      eight = omega (arith, f .on, g .on, f .eight, g .eight);
+      same = g .same ∙ f .same;
+      held = g .held;
+    }
 
 -- n of eight bytes more
 pub bunch-front : (s : List ℕ) (at n : ℕ) → at + 8 ≤ length s → n ≤ 8 → ((i : ℕ) → Fits w8 (getD s i 0))

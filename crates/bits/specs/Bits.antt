@@ -2,7 +2,7 @@
 -- has not handed out yet.
 use mathlib.Core.Bool.{Bool, true, false}
 use mathlib.Core.List.{List, [], _∷_, _++_}
-use Prim.Native.Nat.{ℕ, zero, suc, _+_, _-_, _*_, _/_, _%_, _^_, _≤_, _<_}
+use Prim.Native.Nat.{ℕ, zero, suc, _+_, _*_, _/_, _%_, _^_, _≤_, _<_}
 use lib.ListN.{length, drop, getD}
 use lib.Dec.{eqb}
 use Rattle.bits.specs.declared.Cursor.{Cursor}
@@ -40,7 +40,7 @@ pull (suc n) (b ∷ l) = below b (pull n l)
 abbrev pub wordAt : List ℕ → ℕ → ℕ
 wordAt s at = getD s at 0 + (getD s (at + 1) 0 + (getD s (at + 2) 0 + getD s (at + 3) 0 * 256) * 256) * 256
 
--- the bits that a cursor has not handed out
+-- the bits that a cursor has not handed out: those in hand, then those of the bytes not fetched
 unfoldable pub rest : List ℕ → Cursor → List Bool
 rest s c = lowBits (c .have) (c .hand) ++ bitsOf (drop (c .at) s)
 
@@ -53,7 +53,3 @@ pub record Held (s : List ℕ) (c : Cursor) : Type 0 where
 -- at least 56 bits are in hand, or all that are left
 abbrev pub Full : List ℕ → Cursor → Type 0
 Full s c = c .have < 56 → length s ≤ c .at
-
--- the cursor after n bits, which are in hand
-abbrev pub moved : ℕ → Cursor → Cursor
-moved n c = record { at = c .at; have = c .have - n; hand = c .hand / 2 ^ n }

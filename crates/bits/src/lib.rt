@@ -1,26 +1,35 @@
-// The bits of a strip body, read from bit 0 of each byte up (document 01, "Strips of pixels").
+// The bits of a strip body, read from bit 0 of each byte up (document 01, "Strips of pixels") and fetched in bunches (change request 2): a cursor
+// by value, whose methods answer with the bits and the cursor behind them. Its fields are private, so that bits are read in no other way.
 ghost use mathlib.Core.Path.{_≡_};
+ghost use mathlib.Core.Bool.{true, false};
 ghost use mathlib.Core.List.{List};
-ghost use Prim.Native.Nat.{ℕ, _+_, _*_, _/_, _%_, _^_, _≤_, _<_};
-ghost use lib.ListN.{length, drop};
-ghost use Rattle.bits.specs.Bits.{Held, rest, Full, moved, bitsOf, wordAt};
+ghost use Prim.Native.Nat.{ℕ, _+_, _*_, _≤_, _<_, _^_};
+ghost use lib.ListN.{length};
+ghost use Rattle.bits.specs.Bits.{Held, rest, Full, wordAt};
+ghost use Rattle.bits.specs.Reader.{Starts, Fetches, Hands, Shows, One};
 
-// A place among the bits of a body: `have` bits in hand, lowest first, and the bytes from `at` on not yet taken.
+// A place among the bits of a body: `have` bits in hand, lowest first, and the bytes from `at` on not yet fetched.
 pub struct Cursor {
-    pub at: usize,
-    pub have: u32,
-    pub hand: u64,
+    at: usize,
+    have: u32,
+    hand: u64,
 }
 
-// Bits that were read, as a number, low bit first, and the cursor after them.
+// Bits that were handed out, as a number, low bit first, and the cursor behind them.
 pub struct Taken {
     pub bits: u64,
     pub next: Cursor,
 }
 
+// 0 bits that were handed out, how many, and the cursor behind them.
+pub struct Zeros {
+    pub count: u32,
+    pub next: Cursor,
+}
+
 impl Cursor {
     pub fn new(at: usize) -> Self
-        ensures { λ r. ⌜ ((s : List ℕ) → at ≤ length s → Held s r × (rest s r ≡ bitsOf (drop at s))) ⌝ }
+        ensures { λ r. ⌜ Starts at r ⌝ }
     {
         Cursor {
             at: at,
@@ -29,10 +38,17 @@ impl Cursor {
         }
     }
 
+    // Whether n bits are in hand.
+    pub fn holds(self, n: u32) -> bool
+        ensures { λ r. ⌜ (r ≡ true → n ≤ self .have) × (r ≡ false → self .have < n) ⌝ }
+    {
+        n <= self.have
+    }
+
     // The next n bits, which are in hand.
     pub fn take(self, n: u32) -> Taken
         requires { ⌜ (n ≤ self .have) × (self .have ≤ 63) ⌝ }
-        ensures { λ r. ⌜ (r .bits ≡ self .hand % 2 ^ n) × (r .next ≡ moved n self) ⌝ }
+        ensures { λ r. ⌜ Hands n (r .bits) self (r .next) ⌝ }
     {
         let size: u64 = 1 << n;
         Taken {
@@ -45,26 +61,33 @@ impl Cursor {
         }
     }
 
-    // The n-bit number behind the next two bits. Bits past those in hand are taken to be 0.
-    pub fn behind_two(self, n: u32) -> u8
-        requires { ⌜ n ≤ 8 ⌝ }
-        ensures { λ r. ⌜ r ≡ self .hand / 4 % 2 ^ n ⌝ }
+    // The 0 bits at the front of the next eight, which are in hand.
+    pub fn zeros(self) -> Zeros
+        requires { ⌜ (8 ≤ self .have) × (self .have ≤ 63) ⌝ }
+        ensures { λ r. ⌜ (r .count ≤ 8) × Hands (r .count) 0 self (r .next) × (r .count < 8 → (s : List ℕ) → One (rest s (r .next))) ⌝ }
     {
-        let size: u64 = 1 << n;
-        (self.hand / 4 % size) as u8
+        let count = u64::trailing_zeros(self.hand % 256 + 256);
+        let next = self.take(count).next;
+        Zeros {
+            count: count,
+            next: next,
+        }
     }
 
-    // How many of the next eight bits are 0 before one is 1. Bits past those in hand are taken to be 0.
-    pub fn zeros(self) -> u32
-        ensures { λ r. ⌜ (r ≤ 8) × (self .hand % 2 ^ r ≡ 0) × (r < 8 → self .hand / 2 ^ r % 2 ≡ 1) ⌝ }
+    // The next n bits, not handed out. Where fewer are in hand the answer says nothing. An operation looks at the bits of each of its outcomes and
+    // chooses among the values, which needs no branch (docs/DECISIONS.md, 26).
+    pub fn look(self, n: u32) -> u8
+        requires { ⌜ n ≤ 8 ⌝ }
+        ensures { λ r. ⌜ (n ≤ self .have → Shows n r self) ⌝ }
     {
-        u64::trailing_zeros(self.hand % 256 + 256)
+        let size: u64 = 1 << n;
+        (self.hand % size) as u8
     }
 
     // The same bits, one byte more of them in hand.
     fn byte(self, body: &[u8]) -> Cursor
         requires { ⌜ Held (now body) self × (self .have < 56) × (self .at < length (now body)) ⌝ }
-        ensures { λ r. ⌜ Held (now (body .entry)) r × (rest (now (body .entry)) r ≡ rest (now (body .entry)) self) × (r .at ≡ self .at + 1) ⌝ }
+        ensures { λ r. ⌜ Fetches (now (body .entry)) self r × (r .at ≡ self .at + 1) ⌝ }
     {
         let at = self.at;
         Cursor {
@@ -77,7 +100,7 @@ impl Cursor {
     // The same bits, as many bytes more of them in hand as there are and as the hand has room for.
     fn bytes(self, body: &[u8]) -> Cursor
         requires { ⌜ Held (now body) self ⌝ }
-        ensures { λ r. ⌜ Held (now (body .entry)) r × (rest (now (body .entry)) r ≡ rest (now (body .entry)) self) × Full (now (body .entry)) r ⌝ }
+        ensures { λ r. ⌜ Fetches (now (body .entry)) self r × Full (now (body .entry)) r ⌝ }
     {
         let mut cur = self;
         while cur.at < body.len() {
@@ -89,10 +112,10 @@ impl Cursor {
         cur
     }
 
-    // The same in one step, where eight bytes are there: at most seven of them are taken.
+    // The same in one step, where eight bytes are there: at most seven of them are fetched.
     fn bunch(self, body: &[u8]) -> Cursor
         requires { ⌜ Held (now body) self × (self .at + 8 ≤ length (now body)) ⌝ }
-        ensures { λ r. ⌜ Held (now (body .entry)) r × (rest (now (body .entry)) r ≡ rest (now (body .entry)) self) × (56 ≤ r .have) ⌝ }
+        ensures { λ r. ⌜ Fetches (now (body .entry)) self r × (56 ≤ r .have) ⌝ }
     {
         let at = self.at;
         let have = self.have;
@@ -109,7 +132,7 @@ impl Cursor {
     // The same bits, at least 56 of them in hand, or all that are left.
     pub fn filled(self, body: &[u8]) -> Cursor
         requires { ⌜ Held (now body) self ⌝ }
-        ensures { λ r. ⌜ Held (now (body .entry)) r × (rest (now (body .entry)) r ≡ rest (now (body .entry)) self) × Full (now (body .entry)) r ⌝ }
+        ensures { λ r. ⌜ Fetches (now (body .entry)) self r × Full (now (body .entry)) r ⌝ }
     {
         if 8 <= body.len() - self.at {
             return self.bunch(body);

@@ -1,21 +1,21 @@
 -- Laws of painting from place to place of a strip: paintings go on from one another, up to the whole strip.
 use mathlib.Core.Path.{_≡_, sym, ap, ap₂, _∙_, subst}
-use mathlib.Core.Bool.{Bool, true, false, cond, true≢false}
+use mathlib.Core.Bool.{Bool, true, false, true≢false}
 use mathlib.Core.List.{List, _++_, append-nil}
-use Prim.Native.Nat.{ℕ, zero, suc, _+_, _-_, _/_, _%_, _^_, _≤_, _<_}
-use native.Mathlib.Nat.{div-one}
+use Prim.Native.Nat.{ℕ, zero, suc, _+_, _-_, _≤_, _<_}
 use native.Mathlib.Omega.{arith}
-use lib.Dec.{eqb}
 use lib.ListN.{length, take, set, replicate}
 use lib.Seq.{take-suc-set}
-use Rattle.bits.specs.Bits.{rest, Held, moved}
-use Rattle.bits.proofs.CursorLaws.{moved-held}
+use Rattle.bits.specs.declared.Cursor.{Cursor}
+use Rattle.bits.specs.Bits.{rest, Held}
+use Rattle.bits.specs.Reader.{Hands, One}
+use Rattle.bits.proofs.BitLaws.{got-tail}
 use Rattle.strip.specs.declared.State.{State}
 use Rattle.strip.specs.declared.Next.{Next}
 use Rattle.strip.specs.declared.Next.the-variants.{Go, Refuse}
 use Rattle.strip.specs.declared.Made.{Made}
 use Rattle.strip.specs.Strip.{Strip, refused, pixels, glue, decode}
-use Rattle.strip.specs.Place.{opLength, runAhead, ahead, Gives, Stepped, LeadsTo, keptBy}
+use Rattle.strip.specs.Place.{opLength, secondBit, Whole, runAhead, ahead, Gives, Stepped, Leads, keptBy}
 use Rattle.strip.proofs.StripLaws.{glue-glue, decode-owed}
 use Rattle.strip.proofs.PlaceLaws.{gives-op, gives-kept}
 use Rattle.decode.specs.Paint.{Painted, Paints, Advances, Turned, Drew}
@@ -36,30 +36,32 @@ module _ (second : Bool) (w total : ℕ) (s : List ℕ) where
   paints-on a b c p q r f g = record { on = λ x h. g .on x (f .on x h) }
 
 module _ (second : Bool) (w : ℕ) where
-  pub advances-kept : (n k : ℕ) (st : State) (out out′ : List ℕ) → k ≤ st .cur .have → st .cur .hand % 2 ^ k ≡ 0 → k ≤ n
-      → take (st .i + k) out′ ≡ take (st .i) out ++ replicate k (st .colour) → Advances second w n st out (keptBy k st) out′
-  advances-kept n k st out out′ h z le e =
+  pub advances-kept : (n k : ℕ) (st : State) (next : Cursor) (out out′ : List ℕ) → Hands k 0 (st .cur) next → k ≤ n
+      → take (st .i + k) out′ ≡ take (st .i) out ++ replicate k (st .colour) → Advances second w n st out (keptBy k next st) out′
+  advances-kept n k st next out out′ zeros le e =
       let b : k ≡ st .i + k - st .i = omega arith in
       record {
         forward = omega arith;
         few = omega arith;
-        held = λ s held. moved-held s (st .cur) k h held;
+        held = zeros .held;
         paints = λ s total room.
-            paints second w total s st (keptBy k st) out out′ (gives-kept second w total s st k h z (omega arith))
+            paints second w total s st (keptBy k next st) out out′ (gives-kept second w total s st k next zeros (omega arith))
             (e ∙ ap (λ (j : ℕ). take (st .i) out ++ replicate j (st .colour)) b);
       }
 
-  pub advances-op : (n : ℕ) (st to : State) (out : List ℕ) → to .i ≡ st .i + 1 → n ≤ st .cur .have → to .cur ≡ moved n (st .cur)
-      → ((s : List ℕ) → LeadsTo second w s st to) → st .i < length out → Advances second w 1 st out to (set out (st .i) (to .colour))
-  advances-op n st to out ei le ec o room =
+  pub advances-op : (st to : State) (out : List ℕ) → Leads second w st to → ((s : List ℕ) → One (rest s (st .cur)))
+      → ((s : List ℕ) → runAhead second (rest s (st .cur)) ≡ false) → st .i < length out → Advances second w 1 st out to (set out (st .i) (to .colour))
+  advances-op st to out o one no-run room =
+      let on = o .on in
       let b : 1 ≡ to .i - st .i = omega arith in
       let suc-i : to .i ≡ suc (st .i) = omega arith in
       record {
         forward = omega arith;
         few = omega arith;
-        held = λ s held. subst (Held s) (sym ec) (moved-held s (st .cur) n le held);
+        held = o .held;
         paints = λ s total more.
-            paints second w total s st to out (set out (st .i) (to .colour)) (gives-op second w total s st to 0 (o s) (omega arith) (omega arith))
+            paints second w total s st to out (set out (st .i) (to .colour))
+            (gives-op second w total s st to 0 (o .leads s (one s) (no-run s)) (omega arith) (omega arith))
             (ap (λ (j : ℕ). take j (set out (st .i) (to .colour))) suc-i
             ∙ take-suc-set out (st .i) (to .colour) room
             ∙ ap (λ (j : ℕ). take (st .i) out ++ replicate j (to .colour)) b);
@@ -76,18 +78,20 @@ module _ (second : Bool) (w : ℕ) where
 
 -- ---- what a group and a turn need
 
-pub length-few : (second : Bool) (w v : ℕ) → w ≤ 8 → opLength second w v ≤ 10
-length-few second w v h = by (eqb (v / 2 % 2) 0) second
+-- no operation but a run takes more than ten bits
+pub whole-in-ten : (second : Bool) (w : ℕ) (c : Cursor) → w ≤ 8 → 10 ≤ c .have → Whole second w c
+whole-in-ten second w c h ten = record { two = omega arith; all = λ s v l e. by (secondBit v) second }
   where
-    by : (q second : Bool) → cond q (2 + w) (cond second 5 3) ≤ 10
-    by true second = omega arith
-    by false true = omega arith
-    by false false = omega arith
+    by : (more second : Bool) → opLength second w more ≤ c .have
+    by false second = omega arith
+    by true true = omega arith
+    by true false = omega arith
 
 -- keeps that end at a run are some, where none stands ahead of them
-pub kept-some : (second : Bool) (v k : ℕ) → runAhead second v ≡ false → runAhead second (v / 2 ^ k) ≡ true → 0 < k
-kept-some second v zero e f = absurd (true≢false (sym f ∙ ap (runAhead second) (div-one v) ∙ e))
-kept-some second v (suc k) e f = omega arith
+pub kept-some : (second : Bool) (s : List ℕ) (c next : Cursor) (k : ℕ) → Hands k 0 c next → runAhead second (rest s c) ≡ false
+    → runAhead second (rest s next) ≡ true → 0 < k
+kept-some second s c next zero zeros e f = absurd (true≢false (sym f ∙ sym (ap (runAhead second) (got-tail (zeros .front s))) ∙ e))
+kept-some second s c next (suc k) zeros e f = omega arith
 
 -- the place `st` is the place `from`, with more bits in hand
 module _ (second : Bool) (w total : ℕ) (s : List ℕ) (from st : State) (ei : st .i ≡ from .i) (ec : st .colour ≡ from .colour) (es : st .step ≡ from .step) (er : rest s (st .cur) ≡ rest s (from .cur)) where

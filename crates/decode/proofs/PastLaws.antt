@@ -6,8 +6,10 @@ use Prim.Native.Nat.{ℕ, zero, suc, _+_, _-_, _*_, _/_, _%_, _^_, _≤_, _<_}
 use native.Mathlib.Omega.{arith}
 use lib.Dec.{eqb}
 use lib.ListN.{getD, length, drop, length-append, replicate}
-use Rattle.bits.specs.Bits.{lowBits, bitsOf, rest, moved, Held}
-use Rattle.bits.proofs.BitLaws.{length-low, low-split, low-drop}
+use Rattle.bits.specs.declared.Cursor.{Cursor}
+use Rattle.bits.specs.Bits.{lowBits, rest, Held}
+use Rattle.bits.specs.Reader.{Hands}
+use Rattle.bits.proofs.BitLaws.{length-low, pull-is, pull-drop, pull-long}
 use Rattle.strip.specs.declared.State.{State}
 use Rattle.strip.specs.declared.Next.{Next}
 use Rattle.strip.specs.declared.Next.the-variants.{Go, Refuse}
@@ -57,16 +59,9 @@ index-few (suc (suc i)) w h le = absurd (omega arith)
 
 -- ---- past a row's operations
 
-module _ (second : Bool) (w : ℕ) (le : w ≤ 8) (s : List ℕ) (st : State) (enough : 18 ≤ st .cur .have) (t : List ℕ) (rows : Rows second t) where
-  abbrev v : ℕ
-  v = st .cur .hand
-
-  abbrev b : ℕ
-  b = st .cur .have
-
-  abbrev x : ℕ
-  x = v % 256
-
+-- the next eight bits are x; what its row says is taken
+module _ (second : Bool) (w : ℕ) (s : List ℕ) (st to : State) (x u : ℕ) (behind : Cursor) (t : List ℕ) (seen : Hands 8 x (st .cur) behind)
+    (rows : Rows second t) where
   abbrev found : Row
   found = look second (lowBits 8 x)
 
@@ -76,15 +71,15 @@ module _ (second : Bool) (w : ℕ) (le : w ≤ 8) (s : List ℕ) (st : State) (e
   abbrev far : ℕ
   far = row % 16 + row / 256 * (2 + w)
 
-  abbrev others : List Bool
-  others = lowBits (b - 8) (v / 256) ++ bitsOf (drop (st .cur .at) s)
+  eight : (rest s (st .cur) ≡ lowBits 8 x ++ rest s behind) × (x < 256)
+  eight = pull-is 8 x (rest s (st .cur)) (rest s behind) (seen .front s)
 
   bounds : Bounded found 8
   bounds = subst (Bounded found) (length-low 8 x) (bounded-look second (lowBits 8 x))
 
   parts : (row % 16 ≡ found .bits) × (row / 16 % 16 ≡ found .pixels) × (row / 256 ≡ found .index)
   parts =
-      let e = rows .row x (omega arith) in
+      let e = rows .row x (eight .1) in
       let s0 = bounds .0 in
       let s1 = bounds .1 in
       let s2 = bounds .2 in
@@ -93,37 +88,19 @@ module _ (second : Bool) (w : ℕ) (le : w ≤ 8) (s : List ℕ) (st : State) (e
   far-is : far ≡ reach w found
   far-is = ap₂ (λ (i j : ℕ). i + j * (2 + w)) (parts .0) (parts .2)
 
-  split : rest s (st .cur) ≡ lowBits 8 x ++ others
-  unfolding rest
-  split =
-      let e : b ≡ 8 + (b - 8) = omega arith in
-      ap (λ (k : ℕ). lowBits k v ++ bitsOf (drop (st .cur .at) s)) e
-      ∙ ap (λ (l : List Bool). l ++ bitsOf (drop (st .cur .at) s)) (low-split 8 (b - 8) v)
-      ∙ append-assoc (lowBits 8 x) (lowBits (b - 8) (v / 256)) (bitsOf (drop (st .cur .at) s))
-
-  dropped : (n : ℕ) → n ≤ b → drop n (rest s (st .cur)) ≡ rest s (moved n (st .cur))
-  unfolding rest
-  dropped n h =
-      let e : b ≡ n + (b - n) = omega arith in
-      ap (λ (k : ℕ). drop n (lowBits k v ++ bitsOf (drop (st .cur .at) s))) e ∙ low-drop n (b - n) v (bitsOf (drop (st .cur .at) s))
-
-  long : b ≤ length (rest s (st .cur))
-  unfolding rest
-  long = rw (length-append (lowBits b v) (bitsOf (drop (st .cur .at) s)), length-low b v) (omega arith)
-
-  pub past-went : (to : State) → to .i ≡ st .i + row / 16 % 16 → to .cur ≡ moved far (st .cur) → Went second w s st to
-  past-went to ei ec =
-      let bits = bounds .0 in
-      let step = index-few (found .index) w (bounds .2) le in
-      let few : reach w found ≤ 18 = omega (arith, bits, step) in
+  pub past-went : Hands far u (st .cur) (to .cur) → to .i ≡ st .i + row / 16 % 16 → Went second w s st to
+  past-went taken ei =
+      let l = rest s (st .cur) in
+      let long = pull-long far u l (rest s (to .cur)) (taken .front s) in
+      let split = eight .0 in
       record {
         on = λ k.
             let m : to .i - st .i + k ≡ found .pixels + k = omega (arith, ei, parts .1) in
-            let lo : reach w found ≤ length (lowBits 8 x ++ others) = rw (← split) (omega (arith, few, long)) in
-            ap₂ (λ (j : ℕ) (l : List Bool). tally second w j 0 l) m split
-            ∙ look-passes second w (lowBits 8 x) others k lo
+            let lo : reach w found ≤ length (lowBits 8 x ++ rest s behind) = rw (← split) (omega (arith, far-is, long)) in
+            ap₂ (λ (j : ℕ) (q : List Bool). tally second w j 0 q) m split
+            ∙ look-passes second w (lowBits 8 x) (rest s behind) k lo
             ∙ ap (tally second w k 0)
-            (ap₂ (λ (j : ℕ) (l : List Bool). drop j l) (sym far-is) (sym split) ∙ dropped far (omega (arith, far-is, few)) ∙ ap (rest s) (sym ec));
+            (ap₂ (λ (j : ℕ) (q : List Bool). drop j q) (sym far-is) (sym split) ∙ sym (pull-drop far u l (rest s (to .cur)) (taken .front s)));
       }
 
 -- ---- past what gives pixels of one colour
@@ -142,16 +119,16 @@ module _ (second : Bool) (w total : ℕ) (s : List ℕ) (st : State) where
   tally-stepped (Go to) h = (h .0, h .1, h .2, tally-gives to (h .3))
   tally-stepped (Refuse n) h = sym (made-left st) ∙ ap madeOf h
 
-pub kept-went : (second : Bool) (w : ℕ) (s : List ℕ) (st : State) (k : ℕ) → k ≤ st .cur .have → st .cur .hand % 2 ^ k ≡ 0 → Went second w s st (keptBy k st)
-kept-went second w s st k h z =
+pub kept-went : (second : Bool) (w : ℕ) (s : List ℕ) (st : State) (k : ℕ) (next : Cursor) → Hands k 0 (st .cur) next → Went second w s st (keptBy k next st)
+kept-went second w s st k next zeros =
     record {
       on = λ n.
           let total = st .i + k + n in
           let a : st .i + k - st .i + n ≡ total - st .i = omega arith in
           let c : total - (st .i + k) ≡ n = omega arith in
           ap (λ (j : ℕ). tally second w j 0 (rest s (st .cur))) a
-          ∙ tally-gives second w total s st (keptBy k st) (gives-kept second w total s st k h z (omega arith))
-          ∙ ap (λ (j : ℕ). tally second w j 0 (rest s (moved k (st .cur)))) c;
+          ∙ tally-gives second w total s st (keptBy k next st) (gives-kept second w total s st k next zeros (omega arith))
+          ∙ ap (λ (j : ℕ). tally second w j 0 (rest s next)) c;
     }
 
 -- ---- one place after another

@@ -2,9 +2,10 @@
 // operation behind them over the rest. What is painted past a place is painted again from there on.
 ghost use mathlib.Core.Path.{_≡_};
 ghost use mathlib.Core.Bool.{false};
-ghost use Prim.Native.Nat.{_+_, _≤_, _<_};
+ghost use mathlib.Core.List.{List};
+ghost use Prim.Native.Nat.{ℕ, _+_, _≤_, _<_};
 ghost use lib.ListN.{length, drop, getD};
-ghost use Rattle.bits.specs.Bits.{Held, bitsOf};
+ghost use Rattle.bits.specs.Bits.{Held, rest, bitsOf};
 ghost use Rattle.strip.specs.Strip.{decode};
 ghost use Rattle.strip.specs.Place.{runAhead};
 ghost use Rattle.decode.specs.Paint.{Advances, Turned, Drew};
@@ -23,17 +24,17 @@ use strip::operations::step;
 // Up to eight keeps, and the operation behind them unless it is a run.
 fn group(second: bool, w: u32, st: State, out: &mut [u8]) -> State
     requires { ⌜ (w ≤ 8) × (18 ≤ st .cur .have) × (st .cur .have ≤ 63) × (st .i + 9 ≤ 1600) × (st .i + 9 ≤ length (now out)) ⌝ }
-    ensures { λ r. ⌜ (st .cur .have ≤ r .cur .have + 18) × (r .cur .have ≤ 63) × (runAhead second (st .cur .hand) ≡ false → st .i < r .i) × Advances second w 9 st (now (out .entry)) r (now (out .exit)) ⌝ }
+    ensures { λ r. ⌜ (st .cur .have ≤ r .cur .have + 18) × (r .cur .have ≤ 63) × ((s : List ℕ) → runAhead second (rest s (st .cur)) ≡ false → st .i < r .i) × Advances second w 9 st (now (out .entry)) r (now (out .exit)) ⌝ }
 {
     let cur = st.cur;
-    let k = cur.zeros();
+    let zeros = cur.zeros();
+    let next = zeros.next;
     fill(out, st.i, 8, st.colour);
-    let a = kept(st, k);
-    if k == 8 {
+    let a = kept(st, zeros.count, next);
+    if zeros.count == 8 {
         return a;
     }
-    let next = a.cur;
-    if run_at(second, next.hand) {
+    if run_at(second, next) {
         return a;
     }
     let b = op(second, w, a);
@@ -45,12 +46,14 @@ fn group(second: bool, w: u32, st: State, out: &mut [u8]) -> State
 // Many operations: 32 keeps at once, or three groups.
 fn groups(second: bool, w: u32, st: State, out: &mut [u8]) -> State
     requires { ⌜ (w ≤ 8) × (54 ≤ st .cur .have) × (st .cur .have ≤ 63) × (st .i + 32 ≤ 1600) × (st .i + 32 ≤ length (now out)) ⌝ }
-    ensures { λ r. ⌜ (runAhead second (st .cur .hand) ≡ false → st .i < r .i) × Advances second w 32 st (now (out .entry)) r (now (out .exit)) ⌝ }
+    ensures { λ r. ⌜ ((s : List ℕ) → runAhead second (rest s (st .cur)) ≡ false → st .i < r .i) × Advances second w 32 st (now (out .entry)) r (now (out .exit)) ⌝ }
 {
     let cur = st.cur;
-    if cur.hand % 4294967296 == 0 {
+    let many = cur.take(32);
+    if many.bits == 0 {
+        let next = many.next;
         fill(out, st.i, 32, st.colour);
-        return kept(st, 32);
+        return kept(st, 32, next);
     }
     let a = group(second, w, st, out);
     let b = group(second, w, a, out);

@@ -27,12 +27,6 @@ fn wide(x: u16) -> usize
     x as usize
 }
 
-fn byte(v: u64) -> usize
-    ensures { λ r. ⌜ (r ≡ v % 256) × (r < 256) ⌝ }
-{
-    (v % 256) as usize
-}
-
 // How many bits a row's operations take.
 fn reach_of(row: usize, w: u32) -> u32
     requires { ⌜ (row % 16 ≤ 8) × (row / 256 ≤ 1) × (w ≤ 8) ⌝ }
@@ -48,7 +42,7 @@ fn past(rows: &[u16], w: u32, st: State) -> State
     ensures { λ r. ⌜ (st .cur .have ≤ r .cur .have + 18) × (r .cur .have ≤ 63) × (st .i ≤ r .i) × (r .i ≤ st .i + 8) × ((s : List ℕ) → Held s (st .cur) → Held s (r .cur)) × ((second : Bool) (s : List ℕ) → Rows second (now (rows .entry)) → Went second w s st r) ⌝ }
 {
     let cur = st.cur;
-    let row = wide(rows[byte(cur.hand)]);
+    let row = wide(rows[cur.take(8).bits as usize]);
     let next = cur.take(reach_of(row, w)).next;
     State {
         i: st.i + row / 16 % 16,
@@ -64,8 +58,10 @@ fn looks(rows: &[u16], w: u32, st: State) -> State
     ensures { λ r. ⌜ (st .i ≤ r .i) × (r .i ≤ st .i + 32) × ((s : List ℕ) → Held s (st .cur) → Held s (r .cur)) × ((second : Bool) (s : List ℕ) → Rows second (now (rows .entry)) → Went second w s st r) ⌝ }
 {
     let cur = st.cur;
-    if cur.hand % 4294967296 == 0 {
-        return kept(st, 32);
+    let many = cur.take(32);
+    if many.bits == 0 {
+        let next = many.next;
+        return kept(st, 32, next);
     }
     let one = past(rows, w, st);
     let two = past(rows, w, one);

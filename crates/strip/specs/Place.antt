@@ -1,26 +1,41 @@
 -- A place in the decode of a strip, what comes from it on, and what stepping from place to place comes to. A step may take many
 -- operations at once: that what it gives is the decode's is said here, once for both methods.
-use Prim.Native.Nat.{ℕ, _+_, _-_, _/_, _%_, _≤_, _<_}
+use Prim.Native.Nat.{ℕ, _+_, _-_, _/_, _≤_, _<_}
 use mathlib.Core.Path.{_≡_}
 use mathlib.Core.Bool.{Bool, false, cond, _&&_}
 use mathlib.Core.List.{List}
 use lib.ListN.{replicate}
 use lib.Dec.{eqb}
-use Rattle.bits.specs.Bits.{rest, Held, moved}
+use Rattle.bits.specs.declared.Cursor.{Cursor}
+use Rattle.bits.specs.Bits.{Pull, short, got, pull, rest, Held}
+use Rattle.bits.specs.Reader.{One}
 use Rattle.strip.specs.declared.State.{State}
 use Rattle.strip.specs.declared.Next.{Next}
 use Rattle.strip.specs.declared.Next.the-variants.{Go, Refuse}
-use Rattle.strip.specs.Strip.{go, opOf, Strip, refused, glue, decode}
+use Rattle.strip.specs.Strip.{refuse, go, opOf, Strip, refused, glue, decode}
 
--- ---- the bits v ahead of a place
+-- ---- the bits ahead of a place
 
--- how many bits the operation takes that starts with a 1 bit and isn't a run
-abbrev pub opLength : Bool → (w v : ℕ) → ℕ
-opLength second w v = cond (eqb (v / 2 % 2) 0) (2 + w) (cond second 5 3)
+-- how many bits the operation takes that starts with a 1 bit and isn't a run; `more` says that its second bit is 1 too
+abbrev pub opLength : Bool → (w : ℕ) → Bool → ℕ
+opLength second w more = cond more (cond second 5 3) (2 + w)
 
--- a run of the second method: `11` and d = 4, low bit first
-abbrev pub runAhead : Bool → ℕ → Bool
-runAhead second v = second && eqb (v % 32) 19
+-- of the first two bits, as a number, whether the second is 1
+abbrev pub secondBit : ℕ → Bool
+secondBit v = eqb (v / 2) 1
+
+-- all bits of the operation that starts at c are in hand, if it isn't a run
+pub record Whole (second : Bool) (w : ℕ) (c : Cursor) : Type 0 where
+  pub two : 2 ≤ c .have
+  pub all : (s : List ℕ) (v : ℕ) (l : List Bool) → pull 2 (rest s c) ≡ got v l → opLength second w (secondBit v) ≤ c .have
+
+-- a run of the second method: `11` and d = 4, which from bit 0 up is 19
+abbrev pub isRun : Pull → Bool
+isRun short = false
+isRun (got v l) = eqb v 19
+
+abbrev pub runAhead : Bool → List Bool → Bool
+runAhead second l = second && isRun (pull 5 l)
 
 -- ---- from one place to another, over the body s, in a strip of `total` pixels
 
@@ -41,12 +56,24 @@ Stepped second w total s st (Refuse n) = ahead second w total s st ≡ refused n
 abbrev pub LeadsTo : Bool → (w : ℕ) → List ℕ → (st to : State) → Type 0
 LeadsTo second w s st to = opOf second w (st .colour) (st .step) (rest s (st .cur)) ≡ go 0 (to .colour) (to .step) (rest s (to .cur))
 
--- the place after k keeps
-abbrev pub keptBy : ℕ → State → State
-keptBy k st = record { i = st .i + k; colour = st .colour; step = st .step; cur = moved k (st .cur) }
+-- the operation at st, where it starts with a 1 bit and isn't a run: it takes at most ten bits
+pub record Leads (second : Bool) (w : ℕ) (st to : State) : Type 0 where
+  pub on : to .i ≡ st .i + 1
+  pub few : st .cur .have ≤ to .cur .have + 10
+  pub fewer : to .cur .have ≤ st .cur .have
+  pub held : (s : List ℕ) → Held s (st .cur) → Held s (to .cur)
+  pub leads : (s : List ℕ) → One (rest s (st .cur)) → runAhead second (rest s (st .cur)) ≡ false → LeadsTo second w s st to
+
+-- the operation at c is cut
+abbrev pub Cut : Bool → (w : ℕ) → List ℕ → Cursor → Type 0
+Cut second w s c = (colour step : ℕ) → opOf second w colour step (rest s c) ≡ refuse 7
+
+-- the place after k keeps, where the bits go on at `next`
+abbrev pub keptBy : ℕ → Cursor → State → State
+keptBy k next st = record { i = st .i + k; colour = st .colour; step = st .step; cur = next }
 
 -- so many bits are in hand and so many pixels are left, and no run stands ahead
 pub record Fits (second : Bool) (total bits pixels : ℕ) (st : State) : Type 0 where
-  pub none : runAhead second (st .cur .hand) ≡ false
+  pub none : (s : List ℕ) → runAhead second (rest s (st .cur)) ≡ false
   pub enough : bits ≤ st .cur .have
   pub room : st .i + pixels ≤ total

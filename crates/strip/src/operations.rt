@@ -3,12 +3,14 @@
 ghost use mathlib.Core.Path.{_≡_};
 ghost use mathlib.Core.Bool.{true, false, cond};
 ghost use mathlib.Core.List.{List};
-ghost use Prim.Native.Nat.{ℕ, _+_, _%_, _≤_, _<_};
-ghost use Rattle.bits.specs.Bits.{Held, Full, rest, moved};
+ghost use Prim.Native.Nat.{ℕ, _+_, _≤_, _<_};
+ghost use Rattle.bits.specs.Bits.{Held, Full, rest};
+ghost use Rattle.bits.specs.Reader.{One};
 ghost use Rattle.strip.specs.Strip.{plus, minus, runPixels};
-ghost use Rattle.strip.specs.Place.{opLength, runAhead, keptBy, LeadsTo, Stepped, Fits};
+ghost use Rattle.strip.specs.Place.{opLength, Whole, runAhead, keptBy, Leads, Cut, Stepped, Fits};
 use crate::Next;
 use crate::State;
+use bits::Cursor;
 use std::num::wrapping_add_u8;
 use std::num::wrapping_sub_u8;
 
@@ -32,37 +34,51 @@ fn more(a: u8, b: u8) -> u8
     wrapping_add_u8(a, b)
 }
 
-// How many bits the operation takes that starts with a 1 bit, where it isn't a run.
-fn length_of(second: bool, w: u32, hand: u64) -> u32
+// How many bits the operation takes that starts with a 1 bit and isn't a run; `more` says that its second bit is 1 too.
+fn length_of(second: bool, w: u32, more: bool) -> u32
     requires { ⌜ w ≤ 8 ⌝ }
-    ensures { λ r. ⌜ (r ≡ opLength second w hand) × (r ≤ 10) ⌝ }
+    ensures { λ r. ⌜ (r ≡ opLength second w more) × (r ≤ 10) ⌝ }
 {
-    if hand / 2 % 2 == 0 {
+    if !more {
         return 2 + w;
     }
     if second { 5 } else { 3 }
 }
 
 // Whether a run of the second method stands ahead: `11` and d = 4, which from bit 0 up is 19.
-pub fn run_at(second: bool, hand: u64) -> bool
-    ensures { λ r. ⌜ r ≡ runAhead second hand ⌝ }
+pub fn run_at(second: bool, cur: Cursor) -> bool
+    requires { ⌜ (5 ≤ cur .have) × (cur .have ≤ 63) ⌝ }
+    ensures { λ r. ⌜ ((s : List ℕ) → r ≡ runAhead second (rest s cur)) ⌝ }
 {
-    second & (hand % 32 == 19)
+    second & (cur.take(5).bits == 19)
+}
+
+// The same where fewer bits may be left than a run starts with.
+fn run_left(second: bool, cur: Cursor) -> bool
+    requires { ⌜ cur .have ≤ 63 ⌝ }
+    ensures { λ r. ⌜ ((s : List ℕ) → Full s cur → r ≡ runAhead second (rest s cur)) ⌝ }
+{
+    if !cur.holds(5) {
+        return false;
+    }
+    run_at(second, cur)
 }
 
 // `10` a new index, and the step is 1 again; `110` and `111` of the first method: the step, negated for `111`, is subtracted.
 fn first_op(st: State, w: u32) -> State
-    requires { ⌜ (w ≤ 8) × (opLength false w (st .cur .hand) ≤ st .cur .have) × (st .cur .have ≤ 63) × (st .i < 1600) ⌝ }
-    ensures { λ r. ⌜ (r .i ≡ st .i + 1) × (r .cur ≡ moved (opLength false w (st .cur .hand)) (st .cur)) × ((s : List ℕ) → st .cur .hand % 2 ≡ 1 → LeadsTo false w s st r) ⌝ }
+    requires { ⌜ (w ≤ 8) × Whole false w (st .cur) × (st .cur .have ≤ 63) × (st .i < 1600) ⌝ }
+    ensures { λ r. ⌜ Leads false w st r ⌝ }
 {
     let cur = st.cur;
-    let walk = cur.hand / 2 % 2 == 1;
-    let turned = either(cur.behind_two(1) == 1, less(0, st.step), st.step);
+    let head = cur.take(2);
+    let walk = head.bits / 2 == 1;
+    let behind = head.next;
+    let turned = either(behind.look(1) == 1, less(0, st.step), st.step);
     let walked = less(st.colour, turned);
-    let next = cur.take(length_of(false, w, cur.hand)).next;
+    let next = cur.take(length_of(false, w, walk)).next;
     State {
         i: st.i + 1,
-        colour: either(walk, walked, cur.behind_two(w)),
+        colour: either(walk, walked, behind.look(w)),
         step: either(walk, turned, 1),
         cur: next,
     }
@@ -70,16 +86,18 @@ fn first_op(st: State, w: u32) -> State
 
 // `10` a new index; `11` and d of the second method: colour + d − 4.
 fn second_op(st: State, w: u32) -> State
-    requires { ⌜ (w ≤ 8) × (opLength true w (st .cur .hand) ≤ st .cur .have) × (st .cur .have ≤ 63) × (st .i < 1600) ⌝ }
-    ensures { λ r. ⌜ (r .i ≡ st .i + 1) × (r .cur ≡ moved (opLength true w (st .cur .hand)) (st .cur)) × ((s : List ℕ) → st .cur .hand % 2 ≡ 1 → runAhead true (st .cur .hand) ≡ false → LeadsTo true w s st r) ⌝ }
+    requires { ⌜ (w ≤ 8) × Whole true w (st .cur) × (st .cur .have ≤ 63) × (st .i < 1600) ⌝ }
+    ensures { λ r. ⌜ Leads true w st r ⌝ }
 {
     let cur = st.cur;
-    let change = cur.hand / 2 % 2 == 1;
-    let changed = less(more(st.colour, cur.behind_two(3)), 4);
-    let next = cur.take(length_of(true, w, cur.hand)).next;
+    let head = cur.take(2);
+    let change = head.bits / 2 == 1;
+    let behind = head.next;
+    let changed = less(more(st.colour, behind.look(3)), 4);
+    let next = cur.take(length_of(true, w, change)).next;
     State {
         i: st.i + 1,
-        colour: either(change, changed, cur.behind_two(w)),
+        colour: either(change, changed, behind.look(w)),
         step: either(change, st.step, 1),
         cur: next,
     }
@@ -87,8 +105,8 @@ fn second_op(st: State, w: u32) -> State
 
 // The operation that starts with a 1 bit, where it isn't a run.
 pub fn op(second: bool, w: u32, st: State) -> State
-    requires { ⌜ (w ≤ 8) × (opLength second w (st .cur .hand) ≤ st .cur .have) × (st .cur .have ≤ 63) × (st .i < 1600) ⌝ }
-    ensures { λ r. ⌜ (r .i ≡ st .i + 1) × (r .cur ≡ moved (opLength second w (st .cur .hand)) (st .cur)) × ((s : List ℕ) → st .cur .hand % 2 ≡ 1 → runAhead second (st .cur .hand) ≡ false → LeadsTo second w s st r) ⌝ }
+    requires { ⌜ (w ≤ 8) × Whole second w (st .cur) × (st .cur .have ≤ 63) × (st .i < 1600) ⌝ }
+    ensures { λ r. ⌜ Leads second w st r ⌝ }
 {
     if second {
         second_op(st, w)
@@ -97,13 +115,11 @@ pub fn op(second: bool, w: u32, st: State) -> State
     }
 }
 
-// k keeps.
-pub fn kept(st: State, k: u32) -> State
-    requires { ⌜ (k ≤ st .cur .have) × (st .cur .have ≤ 63) × (st .i < 1600) ⌝ }
-    ensures { λ r. ⌜ r ≡ keptBy k st ⌝ }
+// k keeps, behind which the bits go on at `next`.
+pub fn kept(st: State, k: u32, next: Cursor) -> State
+    requires { ⌜ (k ≤ 63) × (st .i < 1600) ⌝ }
+    ensures { λ r. ⌜ r ≡ keptBy k next st ⌝ }
 {
-    let cur = st.cur;
-    let next = cur.take(k).next;
     State {
         i: st.i + k as usize,
         colour: st.colour,
@@ -112,19 +128,33 @@ pub fn kept(st: State, k: u32) -> State
     }
 }
 
+// Whether all bits of the operation that starts with a 1 bit are in hand, where it isn't a run.
+fn whole(second: bool, w: u32, cur: Cursor) -> bool
+    requires { ⌜ (w ≤ 8) × (cur .have ≤ 63) ⌝ }
+    ensures { λ r. ⌜ (r ≡ true → Whole second w cur) × (r ≡ false → (s : List ℕ) → Full s cur → One (rest s cur) → Cut second w s cur) ⌝ }
+{
+    if !cur.holds(2) {
+        return false;
+    }
+    let more = cur.take(2).bits / 2 == 1;
+    cur.holds(length_of(second, w, more))
+}
+
 // One operation that isn't a run, in a strip of `total` pixels.
 fn one(second: bool, w: u32, total: usize, st: State) -> Next
     requires { ⌜ (w ≤ 8) × (st .cur .have ≤ 63) × (st .i < total) × (total ≤ 1600) ⌝ }
-    ensures { λ r. ⌜ ((s : List ℕ) → Held s (st .cur) → Full s (st .cur) → runAhead second (st .cur .hand) ≡ false → Stepped second w total s st r) ⌝ }
+    ensures { λ r. ⌜ ((s : List ℕ) → Held s (st .cur) → Full s (st .cur) → runAhead second (rest s (st .cur)) ≡ false → Stepped second w total s st r) ⌝ }
 {
     let cur = st.cur;
-    if cur.have < 1 {
+    if !cur.holds(1) {
         return Next::Refuse(7);
     }
-    if cur.hand % 2 == 0 {
-        return Next::Go(kept(st, 1));
+    let first = cur.take(1);
+    let next = first.next;
+    if first.bits == 0 {
+        return Next::Go(kept(st, 1, next));
     }
-    if cur.have < length_of(second, w, cur.hand) {
+    if !whole(second, w, cur) {
         return Next::Refuse(7);
     }
     Next::Go(op(second, w, st))
@@ -144,10 +174,10 @@ fn run_pixels(n: u64) -> usize
 // A run, in a strip of `total` pixels: its number is looked for before its pixels are measured.
 fn run(total: usize, st: State) -> Next
     requires { ⌜ (st .cur .have ≤ 63) × (st .i < total) × (total ≤ 1600) ⌝ }
-    ensures { λ r. ⌜ ((w : ℕ) (s : List ℕ) → Held s (st .cur) → Full s (st .cur) → runAhead true (st .cur .hand) ≡ true → Stepped true w total s st r) ⌝ }
+    ensures { λ r. ⌜ ((w : ℕ) (s : List ℕ) → Held s (st .cur) → Full s (st .cur) → runAhead true (rest s (st .cur)) ≡ true → Stepped true w total s st r) ⌝ }
 {
     let cur = st.cur;
-    if cur.have < 13 {
+    if !cur.holds(13) {
         return Next::Refuse(7);
     }
     let number = cur.take(5).next.take(8);
@@ -170,7 +200,7 @@ pub fn step(second: bool, w: u32, total: usize, st: State) -> Next
     ensures { λ r. ⌜ ((s : List ℕ) → Held s (st .cur) → Full s (st .cur) → Stepped second w total s st r) ⌝ }
 {
     let cur = st.cur;
-    if run_at(second, cur.hand) {
+    if run_left(second, cur) {
         return run(total, st);
     }
     one(second, w, total, st)
@@ -193,14 +223,14 @@ pub fn filled(body: &[u8], st: State) -> State
 
 // Whether so many bits are in hand and so many pixels are left, and no run stands ahead.
 pub fn fits(second: bool, total: usize, bits: u32, pixels: usize, st: State) -> bool
-    requires { ⌜ (st .i ≤ total) × (total ≤ 1600) × (pixels ≤ 100) ⌝ }
+    requires { ⌜ (5 ≤ bits) × (st .cur .have ≤ 63) × (st .i ≤ total) × (total ≤ 1600) × (pixels ≤ 100) ⌝ }
     ensures { λ r. ⌜ (r ≡ true → Fits second total bits pixels st) ⌝ }
 {
     let cur = st.cur;
-    if run_at(second, cur.hand) {
+    if !cur.holds(bits) {
         return false;
     }
-    if cur.have < bits {
+    if run_at(second, cur) {
         return false;
     }
     st.i + pixels <= total

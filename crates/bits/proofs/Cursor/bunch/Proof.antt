@@ -1,11 +1,12 @@
-use Prim.Native.Nat.{_<_}
+use Prim.Native.Nat.{_<_, _≤_}
 use Rattle.bits.specs.Bits.{wordAt}
 use Prim.Native.Nat.{_+_, _*_, _/_, _-_, _%_, _^_}
 use lib.Pow.{pow-pos}
 use denote.Ref.{now}
+use lib.ListN.{length}
 use native.Mathlib.Nat.{mod-lt}
 use native.Mathlib.Omega.{arith}
-use Rattle.bits.proofs.CursorLaws.{size-of, bunch-front, shift-exact, sum-fits, more-held, more-rest}
+use Rattle.bits.proofs.CursorLaws.{size-of, bunch-front, shift-exact, sum-fits, more-fetched}
 use borrow.Author.Needs.{needs}
 use Rattle.bits.proofs.Cursor.bunch.Statement.{statement}
 use Rattle.bits.proofs.Cursor.bunch.Tie as tie
@@ -75,15 +76,19 @@ add-t14 c =
 -- src/lib.rt:81:5
 returns : tie.Need-returns
 returns c =
-    let self = c .before .before .before .args .self in
-    let s = now (c .before .before .before .args .body) in
+    let entry = c .before .before .before in
+    let self = entry .args .self in
+    let s = now (entry .args .body) in
     let n = (63 - self .have) / 8 in
     let v = (wordAt s (self .at) + wordAt s (self .at + 4) * 4294967296) % 2 ^ (8 * n) in
     let low : v < 2 ^ (8 * n) = mod-lt _ (pow-pos (8 * n)) in
-    rw (c .before .eight .ensures, size-of (8 * n) (omega arith), shift-exact s self (c .before .before .before .pre .0) (self .at + n) (8 * n) v (omega (arith, c .before .before .before .pre .0 .few)) low (omega (arith, c .before .before .before .pre .1))) (
-      more-held s self (c .before .before .before .pre .0) (self .at + n) (8 * n) v (omega (arith, c .before .before .before .pre .0 .few)) low (omega (arith, c .before .before .before .pre .1)),
-      more-rest s self (c .before .before .before .pre .0) (self .at + n) (8 * n) v (omega (arith, c .before .before .before .pre .0 .few)) low (omega (arith, c .before .before .before .pre .1)) (bunch-front s (self .at) n (c .before .before .before .pre .1) (omega arith) (c .before .before .shared-slice-known .given)),
-      omega (arith, c .before .before .before .pre .0 .few),
+    let held = entry .pre .0 in
+    let room : self .have + 8 * n ≤ 63 = omega (arith, held .few) in
+    let inside : self .at + n ≤ length s = omega (arith, entry .pre .1) in
+    rw (c .before .eight .ensures, size-of (8 * n) (omega arith), shift-exact s self held (self .at + n) (8 * n) v room low inside) (
+      more-fetched s self held (self .at + n) (8 * n) v room low inside (omega arith) (omega arith)
+          (bunch-front s (self .at) n (entry .pre .1) (omega arith) (c .before .before .shared-slice-known .given)),
+      omega (arith, held .few),
     )
 
 pub bunch-spec : {M : Type 1} → statement M

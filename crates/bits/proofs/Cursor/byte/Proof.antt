@@ -1,9 +1,9 @@
-use Prim.Native.Nat.{_+_}
-use lib.ListN.{getD}
+use Prim.Native.Nat.{_+_, _≤_}
+use lib.ListN.{length, getD}
 use denote.Ref.{now}
 use mathlib.Core.Path.{refl}
 use native.Mathlib.Omega.{arith}
-use Rattle.bits.proofs.CursorLaws.{bits-byte, shift-exact, sum-fits, more-held, more-rest}
+use Rattle.bits.proofs.CursorLaws.{bits-byte, shift-exact, sum-fits, more-fetched}
 use borrow.Author.Needs.{needs}
 use Rattle.bits.proofs.Cursor.byte.Statement.{statement}
 use Rattle.bits.proofs.Cursor.byte.Tie as tie
@@ -46,11 +46,18 @@ add-t11 c =
 -- src/lib.rt:56:5
 returns : tie.Need-returns
 returns c =
-    let s = now (c .before .before .before .before .args .body) in
-    let b = getD s (c .before .before .before .before .args .self .at) 0 in
-    let held = c .before .before .before .before .pre .0 in
-    let byte = c .before .before .shared-slice-known .given (c .before .before .before .before .args .self .at) .fits in
-    rw (shift-exact s (c .before .before .before .before .args .self) held (c .before .before .before .before .args .self .at + 1) 8 b (omega (arith, c .before .before .before .before .pre .1)) byte (omega (arith, c .before .before .before .before .pre .2))) (more-held s (c .before .before .before .before .args .self) held (c .before .before .before .before .args .self .at + 1) 8 b (omega (arith, c .before .before .before .before .pre .1)) byte (omega (arith, c .before .before .before .before .pre .2)), more-rest s (c .before .before .before .before .args .self) held (c .before .before .before .before .args .self .at + 1) 8 b (omega (arith, c .before .before .before .before .pre .1)) byte (omega (arith, c .before .before .before .before .pre .2)) (bits-byte s (c .before .before .before .before .args .self .at) (c .before .before .before .before .pre .2)), refl)
+    let entry = c .before .before .before .before in
+    let self = entry .args .self in
+    let s = now (entry .args .body) in
+    let b = getD s (self .at) 0 in
+    let held = entry .pre .0 in
+    let byte = c .before .before .shared-slice-known .given (self .at) .fits in
+    let room : self .have + 8 ≤ 63 = omega (arith, entry .pre .1) in
+    let inside : self .at + 1 ≤ length s = omega (arith, entry .pre .2) in
+    rw (shift-exact s self held (self .at + 1) 8 b room byte inside) (
+      more-fetched s self held (self .at + 1) 8 b room byte inside (omega arith) (omega arith) (bits-byte s (self .at) (entry .pre .2)),
+      refl,
+    )
 
 pub byte-spec : {M : Type 1} → statement M
 byte-spec =

@@ -2,7 +2,7 @@ use lib.Pow.{pow-pos}
 use Prim.Native.Nat.{ℕ, _%_}
 use mathlib.Core.Path.{refl, ap}
 use native.Mathlib.Omega.{arith}
-use Rattle.bits.proofs.CursorLaws.{size-of}
+use Rattle.bits.proofs.CursorLaws.{size-of, hands-low}
 use borrow.Author.Needs.{needs}
 use Rattle.bits.proofs.Cursor.take.Statement.{statement}
 use Rattle.bits.proofs.Cursor.take.Tie as tie
@@ -27,7 +27,9 @@ shr-t7 c = search needs
 
 -- src/lib.rt:33:5
 returns : tie.Need-returns
-returns c = (ap (λ (k : ℕ). c .before .before .before .args .self .hand % k) (size-of (c .before .before .before .args .n) (omega (arith, c .before .before .before .pre))), refl)
+returns c =
+    let a = c .before .before .before .args in
+    rw (size-of (a .n) (omega (arith, c .before .before .before .pre))) (hands-low (a .self) (a .n) (c .before .before .before .pre .0))
 
 pub take-spec : {M : Type 1} → statement M
 take-spec = tie.close (tie.spec shl-size rem-t4 sub-t5 shr-t7 returns)

@@ -1,17 +1,31 @@
+use native.Mathlib.Omega.{arith}
+use Rattle.bits.proofs.CursorLaws.{hands-zeros, hands-one}
 use Rattle.bits.proofs.ZeroLaws.{zeros-few, zeros-are, zeros-end}
 use borrow.Author.Needs.{needs}
 use Rattle.bits.proofs.Cursor.zeros.Statement.{statement}
 use Rattle.bits.proofs.Cursor.zeros.Tie as tie
 use Rattle.bits.proofs.Cursor.zeros.Reads as reads
 use Rattle.bits.proofs.Cursor.zeros.Lts as lts
+use Rattle.bits.proofs.Cursor.take.Reads as take-reads
 
--- src/lib.rt:52:29
-add-result : tie.Need-add-result
-add-result c = search needs
+-- src/lib.rt:69:41
+add-count : tie.Need-add-count
+add-count c = search needs
 
--- src/lib.rt:49:5
+-- src/lib.rt:70:20
+take-requires : tie.Need-take-requires
+take-requires c κs = (omega (arith, zeros-few (c .before .args .self .hand), c .before .pre .0), c .before .pre .1)
+
+-- src/lib.rt:65:5
 returns : tie.Need-returns
-returns c = (zeros-few (c .before .args .self .hand), zeros-are (c .before .args .self .hand), zeros-end (c .before .args .self .hand))
+returns c =
+    let self = c .before .before .before .args .self in
+    let enough = c .before .before .before .pre .0 in
+    let taken = c .before .take in (
+      zeros-few (self .hand),
+      hands-zeros _ _ self (taken .result .next) (taken .ensures) (zeros-are (self .hand)),
+      λ few. hands-one _ _ self (taken .result .next) (taken .ensures) (omega (arith, few, enough)) (zeros-end (self .hand) few),
+    )
 
 pub zeros-spec : {M : Type 1} → statement M
-zeros-spec = tie.close (tie.spec add-result returns)
+zeros-spec = tie.close (tie.spec add-count take-requires returns)

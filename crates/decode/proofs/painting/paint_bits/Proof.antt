@@ -43,13 +43,13 @@ loop-holds : tie.Need-loop-holds Inv-loop μ-loop
 loop-holds c =
     let a = c .before .before .before .before .args in
     let s = now (a .body) in
-    let e = c .new .ensures s (c .before .before .before .before .pre .3) in
+    let e = c .new .ensures in
     let first = getD s 1 0 in (
       c .before .before .before .before .pre .1,
       refl,
-      e .0,
+      e .held s (c .before .before .before .before .pre .3),
       paint-start (a .second) (a .w) (a .total) first (bitsOf (drop 2 s)) (now (a .out)) (c .before .before .before .before .pre .1) (omega (arith, c .before .before .before .before .pre .1, c .before .before .before .before .pre .4))
-          ∙ ap (λ (l : List Bool). glue (take 1 (set (now (a .out)) 0 first)) (decode (a .second) (a .w) (a .total - 1) 0 first 1 l)) (sym (e .1)),
+          ∙ ap (λ (l : List Bool). glue (take 1 (set (now (a .out)) 0 first)) (decode (a .second) (a .w) (a .total - 1) 0 first 1 l)) (sym (e .all s)),
     )
 
 -- src/painting.rt:94:15

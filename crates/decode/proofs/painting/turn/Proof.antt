@@ -38,7 +38,7 @@ returns c =
     let a = c .before .before .before .before .before .before .before .before .before .args in
     let f = c .before .before .before .before .before .before .filled .ensures in
     let ok = c .before .before .before .before .before .fits2 .ensures (c .before .before .before .before .if1 .taken) in
-    turned-many (a .second) (a .w) (a .total) (now (a .body)) (a .from) (c .before .before .before .before .before .before .filled .result) (f .0) (f .1) (f .2) (f .5) 32 (c .before .before .groups .result) (now (a .out)) _ (c .before .before .groups .ensures .1) (c .before .before .groups .ensures .0 (ok .none)) (ok .room) (f .3)
+    turned-many (a .second) (a .w) (a .total) (now (a .body)) (a .from) (c .before .before .before .before .before .before .filled .result) (f .0) (f .1) (f .2) (f .5) 32 (c .before .before .groups .result) (now (a .out)) _ (c .before .before .groups .ensures .1) (c .before .before .groups .ensures .0 (now (a .body)) (ok .none (now (a .body)))) (ok .room) (f .3)
 
 -- src/painting.rt:68:8
 fits-requires-2 : tie.Need-fits-requires-2
@@ -61,7 +61,7 @@ returns-2 c =
     let a = c .before .before .before .before .before .before .before .before .before .before .before .args in
     let f = c .before .before .before .before .before .before .before .before .filled .ensures in
     let ok = c .before .before .before .before .before .fits3 .ensures (c .before .before .before .before .if2 .taken) in
-    turned-many (a .second) (a .w) (a .total) (now (a .body)) (a .from) (c .before .before .before .before .before .before .before .before .filled .result) (f .0) (f .1) (f .2) (f .5) 9 (c .before .before .group .result) (now (a .out)) _ (c .before .before .group .ensures .3) (c .before .before .group .ensures .2 (ok .none)) (ok .room) (f .3)
+    turned-many (a .second) (a .w) (a .total) (now (a .body)) (a .from) (c .before .before .before .before .before .before .before .before .filled .result) (f .0) (f .1) (f .2) (f .5) 9 (c .before .before .group .result) (now (a .out)) _ (c .before .before .group .ensures .3) (c .before .before .group .ensures .2 (now (a .body)) (ok .none (now (a .body)))) (ok .room) (f .3)
 
 -- src/painting.rt:71:11
 step-requires : tie.Need-step-requires

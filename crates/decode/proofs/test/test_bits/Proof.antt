@@ -31,8 +31,8 @@ new-requires c κs = tt
 loop-holds : tie.Need-loop-holds Inv-loop μ-loop
 loop-holds c =
     let a = c .before .before .before .args in
-    let e = c .new .ensures (now (a .body)) (c .before .before .before .pre .3) in
-    (c .before .before .before .pre .1, e .0, tally-start (a .second) (a .w) (a .total) (bitsOf (drop 2 (now (a .body)))) (c .before .before .before .pre .1) ∙ ap (λ (l : List Bool). tally (a .second) (a .w) (a .total - 1) 0 l) (sym (e .1)))
+    let e = c .new .ensures in
+    (c .before .before .before .pre .1, e .held (now (a .body)) (c .before .before .before .pre .3), tally-start (a .second) (a .w) (a .total) (bitsOf (drop 2 (now (a .body)))) (c .before .before .before .pre .1) ∙ ap (λ (l : List Bool). tally (a .second) (a .w) (a .total - 1) 0 l) (sym (e .all (now (a .body)))))
 
 -- src/test.rt:109:15
 turn-requires : tie.Need-turn-requires Inv-loop μ-loop

@@ -1,28 +1,27 @@
-use Prim.Native.Nat.{_/_, _%_}
-use mathlib.Core.Path.{refl}
 use native.Mathlib.Omega.{arith}
-use borrow.Author.Tests.{eq-eqb, ne-eqb}
+use mathlib.Core.Path.{refl}
+use borrow.Author.Tests.{not-true, not-false}
 use borrow.Author.Needs.{needs}
 use Rattle.strip.proofs.operations.length_of.Statement.{statement}
 use Rattle.strip.proofs.operations.length_of.Tie as tie
 use Rattle.strip.proofs.operations.length_of.Reads as reads
 use Rattle.strip.proofs.operations.length_of.Lts as lts
 
--- src/operations.rt:27:16
+-- src/operations.rt:43:16
 add-result : tie.Need-add-result
 add-result c = search needs
 
--- src/operations.rt:27:9
+-- src/operations.rt:43:9
 returns : tie.Need-returns
-returns c = rw (eq-eqb (c .before .args .hand / 2 % 2) 0 (c .if1 .taken)) (refl, omega (arith, c .before .pre))
+returns c = rw (not-true (c .before .args .more) (c .if1 .taken)) (refl, omega (arith, c .before .pre))
 
--- src/operations.rt:22:1
+-- src/operations.rt:38:1
 returns-2 : tie.Need-returns-2
-returns-2 c = rw (ne-eqb (c .before .before .args .hand / 2 % 2) 0 (c .before .if1 .left), c .if2 .taken) (refl, omega arith)
+returns-2 c = rw (not-false (c .before .before .args .more) (c .before .if1 .left), c .if2 .taken) (refl, omega arith)
 
--- src/operations.rt:22:1
+-- src/operations.rt:38:1
 returns-3 : tie.Need-returns-3
-returns-3 c = rw (ne-eqb (c .before .before .args .hand / 2 % 2) 0 (c .before .if1 .left), c .if2 .left) (refl, omega arith)
+returns-3 c = rw (not-false (c .before .before .args .more) (c .before .if1 .left), c .if2 .left) (refl, omega arith)
 
 pub length-of-spec : {M : Type 1} → statement M
 length-of-spec = tie.close (tie.spec add-result returns returns-2 returns-3)

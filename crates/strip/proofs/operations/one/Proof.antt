@@ -1,43 +1,82 @@
-use Rattle.strip.proofs.PlaceLaws.{none-stepped, cut-stepped, keep-stepped, op-stepped}
+use Rattle.strip.proofs.PlaceLaws.{refuses, none-stepped, keep-stepped, op-stepped, one-first}
+use Rattle.bits.specs.Reader.{Hands}
+use Rattle.bits.specs.Bits.{rest}
 use native.Mathlib.Omega.{arith}
+use mathlib.Core.Path.{subst}
+use Prim.Native.Nat.{ℕ}
+use borrow.Author.Tests.{not-true, not-false}
 use borrow.Author.Needs.{needs}
 use Rattle.strip.proofs.operations.one.Statement.{statement}
 use Rattle.strip.proofs.operations.one.Tie as tie
 use Rattle.strip.proofs.operations.one.Reads as reads
 use Rattle.strip.proofs.operations.one.Lts as lts
+use Rattle.bits.proofs.Cursor.holds.Reads as holds-reads
+use Rattle.bits.proofs.Cursor.take.Reads as take-reads
 use Rattle.strip.proofs.operations.kept.Reads as kept-reads
-use Rattle.strip.proofs.operations.length_of.Reads as length-of-reads
 use Rattle.strip.proofs.operations.op.Reads as op-reads
+use Rattle.strip.proofs.operations.whole.Reads as whole-reads
 
--- src/operations.rt:112:9
+-- src/operations.rt:138:9
+holds-requires : tie.Need-holds-requires
+holds-requires c κs = search needs
+
+-- src/operations.rt:139:9
 returns : tie.Need-returns
-returns c = λ s held full no-run. none-stepped (c .before .before .before .args .second) (c .before .before .before .args .w) (c .before .before .before .args .total) s (c .before .before .before .args .st) (c .before .before .before .pre .2) full (c .if1 .taken)
+returns c = λ s held full no-run.
+    let a = c .before .before .before .args in
+    none-stepped (a .second) (a .w) (a .total) s (a .st) (c .before .before .before .pre .2) full (c .before .holds .ensures .1 (not-true _ (c .if1 .taken)))
 
--- src/operations.rt:115:25
+-- src/operations.rt:141:9
+take-requires : tie.Need-take-requires
+take-requires c κs = (c .before .holds .ensures .0 (not-false _ (c .if1 .left)), c .before .before .before .pre .1)
+
+-- src/operations.rt:144:25
 kept-requires : tie.Need-kept-requires
 kept-requires c κs = search needs
 
--- src/operations.rt:115:9
+-- src/operations.rt:144:9
 returns-2 : tie.Need-returns-2
-returns-2 c = λ s held full no-run. rw (c .kept .ensures) (keep-stepped (c .before .before .before .before .before .before .args .second) (c .before .before .before .before .before .before .args .w) (c .before .before .before .before .before .before .args .total) s (c .before .before .before .before .before .before .args .st) (c .before .before .before .before .before .before .pre .2) held (omega arith) (c .before .if2 .taken))
+returns-2 c = λ s held full no-run.
+    let a = c .before .before .before .before .before .before .before .before .args in
+    let taken = c .before .before .before .before .take in
+    rw (c .kept .ensures) (keep-stepped (a .second) (a .w) (a .total) s (a .st) (c .before .before .before .before .before .before .before .before .pre .2) held (taken .result .next)
+    (subst (λ (v : ℕ). Hands 1 v (a .st .cur) (taken .result .next)) (c .before .if2 .taken) (taken .ensures)))
 
--- src/operations.rt:117:19
-length-of-requires : tie.Need-length-of-requires
-length-of-requires c κs = search needs
+-- src/operations.rt:146:9
+whole-requires : tie.Need-whole-requires
+whole-requires c κs = search needs
 
--- src/operations.rt:118:9
+-- src/operations.rt:147:9
 returns-3 : tie.Need-returns-3
-returns-3 c = λ s held full no-run. cut-stepped (c .before .before .before .before .before .before .before .before .args .second) (c .before .before .before .before .before .before .before .before .args .w) (c .before .before .before .before .before .before .before .before .args .total) s (c .before .before .before .before .before .before .before .before .args .st) (c .before .before .before .before .before .before .before .before .pre .2) full (omega (arith, c .before .before .before .if2 .left)) (omega arith) (omega (arith, c .before .before .length-of .ensures .0)) (omega (arith, c .before .before .length-of .ensures .0, c .before .before .length-of .ensures .1))
+returns-3 c = λ s held full no-run.
+    let a = c .before .before .before .before .before .before .before .before .before .args in
+    let taken = c .before .before .before .before .before .take in
+    refuses (a .second) (a .w) (a .total) s (a .st) 7 (c .before .before .before .before .before .before .before .before .before .pre .2)
+    (c .before .whole .ensures .1 (not-true _ (c .if3 .taken)) s full
+    (one-first (rest s (a .st .cur)) (rest s (taken .result .next)) (taken .result .bits) (taken .ensures .front s) (c .before .before .if2 .left)) (a .st .colour) (a .st .step))
 
--- src/operations.rt:120:14
+-- src/operations.rt:149:14
 op-requires : tie.Need-op-requires
-op-requires c κs = search needs
+op-requires c κs = (c .before .before .before .before .before .before .before .before .before .pre .0, c .before .whole .ensures .0 (not-false _ (c .if3 .left)), c .before .before .before .before .before .before .before .before .before .pre .1, omega (arith, c .before .before .before .before .before .before .before .before .before .pre .2, c .before .before .before .before .before .before .before .before .before .pre .3))
 
--- src/operations.rt:106:1
+-- src/operations.rt:133:1
 returns-4 : tie.Need-returns-4
-returns-4 c = λ s held full no-run. op-stepped (c .before .before .before .before .before .before .before .before .before .args .second) (c .before .before .before .before .before .before .before .before .before .args .w) (c .before .before .before .before .before .before .before .before .before .args .total) s (c .before .before .before .before .before .before .before .before .before .args .st) (c .before .before .before .before .before .before .before .before .before .pre .2) held (c .op .result) _ (c .op .ensures .0) (omega (arith, c .before .before .before .length-of .ensures .0)) (c .op .ensures .1) (c .op .ensures .2 s (omega (arith, c .before .before .before .before .if2 .left)) no-run)
+returns-4 c = λ s held full no-run.
+    let a = c .before .before .before .before .before .before .before .before .before .before .args in
+    let taken = c .before .before .before .before .before .before .take in
+    op-stepped (a .second) (a .w) (a .total) s (a .st) (c .before .before .before .before .before .before .before .before .before .before .pre .2) held (c .op .result) (c .op .ensures)
+    (one-first (rest s (a .st .cur)) (rest s (taken .result .next)) (taken .result .bits) (taken .ensures .front s) (c .before .before .before .if2 .left)) no-run
 
 pub one-spec : {M : Type 1} → statement M
 one-spec =
     tie.close
-    (tie.spec returns kept-requires returns-2 length-of-requires returns-3 op-requires returns-4)
+    (tie.spec
+    holds-requires
+    returns
+    take-requires
+    kept-requires
+    returns-2
+    whole-requires
+    returns-3
+    op-requires
+    returns-4)

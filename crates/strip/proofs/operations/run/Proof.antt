@@ -1,51 +1,75 @@
 use Rattle.strip.proofs.PlaceLaws.{run-cut-stepped, run-past-stepped, run-stepped}
+use Rattle.bits.proofs.CursorLaws.{hands-small}
 use native.Mathlib.Omega.{arith}
-use native.Mathlib.Nat.{mod-lt}
-use mathlib.Core.Path.{subst, sym}
-use Prim.Native.Nat.{ℕ, _<_}
+use Prim.Native.Nat.{_<_, _^_, _≤_}
+use borrow.Author.Tests.{not-true, not-false}
 use borrow.Author.Needs.{needs}
 use Rattle.strip.proofs.operations.run.Statement.{statement}
 use Rattle.strip.proofs.operations.run.Tie as tie
 use Rattle.strip.proofs.operations.run.Reads as reads
 use Rattle.strip.proofs.operations.run.Lts as lts
+use Rattle.bits.proofs.Cursor.holds.Reads as holds-reads
 use Rattle.bits.proofs.Cursor.take.Reads as take-reads
+use Rattle.strip.proofs.operations.run_pixels.Reads as run-pixels-reads
 
+-- src/operations.rt:169:9
+holds-requires : tie.Need-holds-requires
+holds-requires c κs = search needs
+
+-- src/operations.rt:170:9
 returns : tie.Need-returns
-returns c =
-    let entry = c .before .before .before in
-    λ w s held full is-run. run-cut-stepped w (entry .args .total) s (entry .args .st) (entry .pre .1) is-run full (c .if1 .taken)
+returns c = λ w s held full is-run.
+    let a = c .before .before .before .args in
+    run-cut-stepped w (a .total) s (a .st) (c .before .before .before .pre .1) is-run full (c .before .holds .ensures .1 (not-true _ (c .if1 .taken)))
 
+-- src/operations.rt:172:18
 take-requires : tie.Need-take-requires
-take-requires c κs = search needs
+take-requires c κs = (omega (arith, c .before .holds .ensures .0 (not-false _ (c .if1 .left))), c .before .before .before .pre .0)
 
+-- src/operations.rt:172:9
 take-requires-2 : tie.Need-take-requires-2
-take-requires-2 c κs = let few = c .before .before .before .before .pre .0 in rw (c .take .ensures .1) (omega (arith, few), omega (arith, few))
+take-requires-2 c κs =
+    let held = c .before .before .holds .ensures .0 (not-false _ (c .before .if1 .left)) in
+    let fewer = c .take .ensures .fewer in
+    (omega (arith, held, fewer), omega (arith, fewer, c .before .before .before .before .pre .0))
 
+-- src/operations.rt:173:21
 run-pixels-requires : tie.Need-run-pixels-requires
-run-pixels-requires c κs = subst (λ (n : ℕ). n < 256) (sym (c .take2 .ensures .0)) (mod-lt _ (let p : 0 < 256 = omega arith in p))
+run-pixels-requires c κs = hands-small (c .take2 .ensures)
 
+-- src/operations.rt:173:14
 add-to : tie.Need-add-to
 add-to c = search needs
 
+-- src/operations.rt:175:9
 returns-2 : tie.Need-returns-2
-returns-2 c =
-    let count = c .before .before .run-pixels in
-    let number = c .before .before .before .take2 in
-    let five = c .before .before .before .before .take in
-    let entry = c .before .before .before .before .before .before .before .before in
-    λ w s held full is-run.
-    run-past-stepped w (entry .args .total) s (entry .args .st) (entry .pre .1) is-run (five .result .next) (number .result .next) (number .result .bits)
-    (count .result) (five .ensures .1) (number .ensures .1) (number .ensures .0) (count .ensures .0) (count .ensures .1) (omega arith) (c .if2 .taken)
+returns-2 c = λ w s held full is-run.
+    let a = c .before .before .before .before .before .before .before .before .args in
+    let one = c .before .before .before .before .take in
+    let two = c .before .before .before .take2 in
+    let number = c .before .before .run-pixels in
+    run-past-stepped w (a .total) s (a .st) (c .before .before .before .before .before .before .before .before .pre .1) is-run (one .result .next) (two .result .next) _ _ (number .result)
+    (one .ensures) (two .ensures) (number .ensures .0) (number .ensures .1) (c .if2 .taken)
 
+-- src/operations.rt:164:1
 returns-3 : tie.Need-returns-3
-returns-3 c =
-    let count = c .before .before .before .run-pixels in
-    let number = c .before .before .before .before .take2 in
-    let five = c .before .before .before .before .before .take in
-    let entry = c .before .before .before .before .before .before .before .before .before in
-    λ w s held full is-run.
-    run-stepped w (entry .args .total) s (entry .args .st) (entry .pre .1) is-run (five .result .next) (number .result .next) (number .result .bits)
-    (count .result) (five .ensures .1) (number .ensures .1) (number .ensures .0) (count .ensures .0) (count .ensures .1) (omega arith) held (omega arith)
+returns-3 c = λ w s held full is-run.
+    let a = c .before .before .before .before .before .before .before .before .before .args in
+    let one = c .before .before .before .before .before .take in
+    let two = c .before .before .before .before .take2 in
+    let number = c .before .before .before .run-pixels in
+    run-stepped w (a .total) s (a .st) (c .before .before .before .before .before .before .before .before .before .pre .1) is-run (one .result .next) (two .result .next) _ _ (number .result)
+    (one .ensures) (two .ensures) (number .ensures .0) (number .ensures .1) held (omega (arith, c .before .if2 .left))
 
 pub run-spec : {M : Type 1} → statement M
-run-spec = tie.close (tie.spec returns take-requires take-requires-2 run-pixels-requires add-to returns-2 returns-3)
+run-spec =
+    tie.close
+    (tie.spec
+    holds-requires
+    returns
+    take-requires
+    take-requires-2
+    run-pixels-requires
+    add-to
+    returns-2
+    returns-3)
