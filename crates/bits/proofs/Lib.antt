@@ -1,3 +1,5 @@
 pub mod BitLaws
 pub mod CursorLaws
+pub mod ReaderExample
+pub mod ReaderLaws
 pub mod ZeroLaws

@@ -1,6 +1,8 @@
--- Demand 2 holds, by the laws of crates actor and blocks and of StripReads.
+-- Demand 2 holds, by the laws of crates bits, actor and blocks and of StripReads.
 use mathlib.Core.Path.{refl}
+use native.Mathlib.Omega.{arith}
 use Rattle.actor.proofs.ActorLaws as actor
+use Rattle.bits.proofs.ReaderLaws as reader
 use Rattle.blocks.proofs.ReadBack.{smap-call-pixel, plane-call-reads}
 use Rattle.demands.specs.Demand2.{Demand2}
 use Rattle.demands.proofs.StripReads as reads
@@ -20,4 +22,8 @@ demand2 =
       coded-loaded = reads.coded-loaded;
       run-gives = reads.run-gives;
       run-cut = reads.run-cut;
+      bits-in-order = reader.always;
+      each-byte-once = reader.once;
+      holds-25 = reader.at-least-25;
+      eight-in-hand = λ body c d f full n few. reader.enough-in-hand body c d f full n (omega (arith, few));
     }

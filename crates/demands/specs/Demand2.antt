@@ -3,7 +3,8 @@
 -- inside the room is hidden exactly when the actor's own clip level names a plane of the room and that plane's bit is set there."
 --
 -- What is read, and that what is written is the writing rule's bytes, is the contracts' equations (docs/PROOFS.md names each). Here: what is
--- written reads back, which actor pixel is hidden, and what change request 5 says of raw strips and runs.
+-- written reads back, which actor pixel is hidden, what change request 5 says of raw strips and runs, and what change request 2 says of the
+-- reader of a strip's bits.
 use Prim.Native.Nat.{ℕ, _+_, _-_, _*_, _/_, _%_, _≤_, _<_}
 use mathlib.Core.Path.{_≡_}
 use mathlib.Core.Bool.{Bool, true, false}
@@ -11,7 +12,9 @@ use mathlib.Core.List.{List, _∷_, _++_}
 use mathlib.Core.Logic.{_↔_, _⊎_}
 use lib.IntN.{ℤ, pos, _+ℤ_}
 use lib.ListN.{length, getD, take, drop, replicate}
-use Rattle.bits.specs.Bits.{lowBits, bitsOf}
+use Rattle.bits.specs.declared.Cursor.{Cursor}
+use Rattle.bits.specs.Bits.{lowBits, bitsOf, rest, Full}
+use Rattle.bits.specs.Reader.{Fetches, Reads}
 use Rattle.strip.specs.Strip.{Strip, refused, glue, decode}
 use Rattle.strip.specs.Strip as strip
 use Rattle.strip.specs.Picture.{kindOf, sourceOf, refusal, picture, stripOf}
@@ -90,3 +93,15 @@ pub record Demand2 : Type 0 where
       × (1 ≤ k → k < m → decode true width k 0 c step (runHead ++ (lowBits 8 n ++ l)) ≡ refused 8)
   -- 7 where the number's 8 bits aren't there, however long a run it would be
   pub run-cut : (width k c step : ℕ) (l : List Bool) → 1 ≤ k → length l < 8 → decode true width k 0 c step (runHead ++ l) ≡ refused 7
+  -- change request 2, "the bits held and then the bytes not fetched are always the body's bits not yet handed out": c is a cursor over a body that
+  -- started before the byte `from` and, through any order of fetches and hand-outs, has handed out the bits l. What a start, a fetch and a hand-out
+  -- are is said by `Starts`, `Fetches` and `Hands`, which crate bits' cursor promises (`new`, `filled`, `take`, `zeros`)
+  pub bits-in-order : (body : List ℕ) (from : ℕ) (l : List Bool) (c : Cursor) → Reads body from l c
+      → bitsOf (drop from body) ≡ l ++ (lowBits (c .have) (c .hand) ++ bitsOf (drop (c .at) body))
+  -- "each byte once": eight bits came in for each byte passed, and they are handed out or held
+  pub each-byte-once : (body : List ℕ) (from : ℕ) (l : List Bool) (c : Cursor) → Reads body from l c
+      → (from ≤ c .at) × (8 * (c .at - from) ≡ length l + c .have)
+  -- "it should fetch bytes until it holds at least 25 bits or the body ends": c becomes d by what `filled` promises
+  pub holds-25 : (body : List ℕ) (c d : Cursor) → Fetches body c d → Full body d → (25 ≤ d .have) ⊎ (d .at ≡ length body)
+  -- "and hand out up to 8 bits": after that, n bits are in hand unless fewer than n are left at all
+  pub eight-in-hand : (body : List ℕ) (c d : Cursor) → Fetches body c d → Full body d → (n : ℕ) → n ≤ 8 → n ≤ length (rest body d) → n ≤ d .have
