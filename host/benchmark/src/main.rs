@@ -3,6 +3,7 @@
 //!     benchmark                  every table, a few minutes; then whether the goals are met. The exit status is 0 either way
 //!     benchmark quick            everything once in a few seconds: the comparisons count, the times don't
 //!     benchmark --instructions   instructions a pixel for the loads, where valgrind is on the machine
+//!     benchmark ROOM             how long the load and the whole test of one room take
 //!
 //! Before a thing is timed, its result is compared, byte by byte, with the reference's and for loads with the unchecked pass's too.
 
@@ -12,6 +13,7 @@ mod count;
 mod goal;
 mod growth;
 mod loads;
+mod own;
 mod pass;
 mod picture;
 mod room;
@@ -51,8 +53,14 @@ fn main() {
         ["quick"] => tables(Effort::Quick),
         ["--instructions"] => count::tables(),
         [count::INSIDE] => count::inside(),
+        [room] if !room.starts_with('-') => {
+            if let Err(why) = own::table(room) {
+                eprintln!("benchmark: {why}");
+                std::process::exit(1);
+            }
+        }
         _ => {
-            eprintln!("usage: benchmark [quick | --instructions]");
+            eprintln!("usage: benchmark [quick | --instructions | ROOM]");
             std::process::exit(2);
         }
     }

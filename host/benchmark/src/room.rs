@@ -180,7 +180,7 @@ pub struct Room {
 }
 
 impl Room {
-    fn new(spec: Spec, mut bytes: Vec<u8>) -> Room {
+    pub fn new(spec: Spec, mut bytes: Vec<u8>) -> Room {
         let size = bytes.len();
         bytes.extend([0; 16]);
         Room { spec, bytes, size }
