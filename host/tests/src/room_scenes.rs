@@ -4,7 +4,7 @@ use crate::bench::Bench;
 use crate::rng::Rng;
 use crate::rooms::{self, Plan};
 use crate::strips::{any_code, mask_body, pixel_body, Fault, Strips};
-use crate::tree::{container, leaf};
+use crate::tree::leaf;
 use crate::{calls, damage, session_scenes};
 
 /// A buffer of about `need` bytes that holds anything: exactly as long, one shorter, longer or empty.
@@ -96,11 +96,9 @@ pub fn order(b: &mut Bench, r: &mut Rng) {
 pub fn bodies(b: &mut Bench, r: &mut Rng) {
     let (h, strips) = (r.range(1, 6), r.range(1, 2));
     let load = |b: &mut Bench, pixels: Vec<Vec<u8>>, rows: Vec<Option<Vec<u8>>>| {
-        let block = |width, bodies| Strips { width, h, bodies, gap: vec![], wrong: vec![], cut: None }.payload();
+        let block = |width, bodies| Strips::tight(width, h, bodies).payload();
         let image = vec![leaf(b"SMAP", block(4, pixels.into_iter().map(Some).collect())), leaf(b"ZP01", block(2, rows))];
-        let rmim = container(b"RMIM", vec![leaf(b"RMIH", vec![1, 0]), container(b"IM00", image)]);
-        let rmhd = leaf(b"RMHD", vec![8 * strips as u8, 0, h as u8, 0, 0, 0]);
-        let room = container(b"ROOM", vec![rmhd, rmim]).write();
+        let room = rooms::least_room(8 * strips, h, 1, image).write();
         calls::load(b, &room, &[1; 450], &vec![2; 8 * strips * h], &vec![3; strips * h]);
     };
     let codes = |r: &mut Rng| (0..strips).map(|_| any_code(r)).collect::<Vec<_>>();

@@ -162,6 +162,18 @@ pub fn image(r: &mut Rng, w: usize, h: usize, n: usize) -> Node {
     container(b"IM00", kids)
 }
 
+/// A room of this image and no blocks but the needed ones.
+pub fn least_room(w: usize, h: usize, n: usize, image: Vec<Node>) -> Node {
+    let rmim = container(b"RMIM", vec![leaf(b"RMIH", u16s(&[n])), container(b"IM00", image)]);
+    container(b"ROOM", vec![leaf(b"RMHD", u16s(&[w, h, 0])), rmim])
+}
+
+/// The blocks of an object at (0, 0) whose only state is this IM01 block.
+pub fn object_of(r: &mut Rng, width: usize, h: usize, state: Node) -> [Node; 2] {
+    let imhd = leaf(b"IMHD", u16s(&[7, 1, 0, 0, 0, 0, width, h]));
+    [obcd(r, 7), container(b"OBIM", vec![imhd, state])]
+}
+
 /// A good room of these sizes.
 pub fn room_of(r: &mut Rng, w: usize, h: usize, n: usize) -> Plan {
     let numbers = r.below(70_000) % 65_536;

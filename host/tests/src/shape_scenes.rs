@@ -4,9 +4,9 @@
 use crate::bench::{Bench, Place};
 use crate::calls::{self, Turn};
 use crate::rng::Rng;
-use crate::rooms::{self, u16s, Plan};
+use crate::rooms::{self, Plan};
 use crate::shapes::{shapes, Shape};
-use crate::tree::{container, leaf, Body, Node};
+use crate::tree::{Body, Node};
 
 /// Puts the shape into one strip of the block.
 fn put(r: &mut Rng, smap: Option<&mut Node>, shape: Shape) {
@@ -38,9 +38,7 @@ fn with_image(r: &mut Rng, shape: Shape) -> Plan {
     let mut state = rooms::image(r, width, h, n);
     state.tag = *b"IM01";
     put(r, state.find(&[b"SMAP"]), shape);
-    let imhd = leaf(b"IMHD", u16s(&[7, 1, 0, 0, 0, 0, width, h]));
-    let blocks = [container(b"OBIM", vec![imhd, state]), rooms::obcd(r, 7)];
-    plan.root.kids().extend(blocks);
+    plan.root.kids().extend(rooms::object_of(r, width, h, state));
     plan
 }
 

@@ -18,6 +18,11 @@ pub struct Strips {
 }
 
 impl Strips {
+    /// The bodies one behind the other, right behind the table.
+    pub fn tight(width: usize, h: usize, bodies: Vec<Option<Vec<u8>>>) -> Strips {
+        Strips { width, h, bodies, gap: vec![], wrong: vec![], cut: None }
+    }
+
     pub fn lowest(&self) -> usize {
         8 + self.width * self.bodies.len()
     }
