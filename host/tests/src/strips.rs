@@ -83,35 +83,58 @@ fn finish(r: &mut Rng, mut body: Vec<u8>, fault: Fault) -> Vec<u8> {
     body
 }
 
+/// What an operation does. A step is a walk of the first method (`110`, `111`) and a change of the second (d ≠ 4).
+#[derive(Clone, Copy, Debug, PartialEq, Eq, PartialOrd, Ord)]
+pub enum Operation {
+    Keep,
+    Index,
+    Step,
+    Run,
+}
+
 /// The shares of keeps, new indexes, steps and runs. The first method has steps for runs.
 const SHARES: [[usize; 4]; 6] = [[1, 1, 1, 1], [20, 1, 1, 1], [1, 20, 1, 0], [1, 1, 20, 0], [0, 0, 1, 0], [2, 1, 2, 12]];
 
-/// Operations under `code` that make the pixels after the first one, exactly until there are `count`.
-pub fn put_operations(r: &mut Rng, bits: &mut Bits, code: u8, count: usize) {
+/// The bits of an index under `code`.
+pub fn index_bits(code: u8) -> usize {
     let start = STARTS.into_iter().find(|start| (*start..start + 5).contains(&code)).expect("a code with operations");
-    let (index, share) = ((code - start) as usize + 4, r.pick(&SHARES));
-    let mut made = 1;
-    while made < count {
-        let mut pixels = 1;
-        match (r.share(&share), is_second(code)) {
-            (0, _) => bits.put(0, 1),
-            (1, _) => {
-                bits.put(0b01, 2);
-                bits.put(r.byte() as usize, index);
-            }
-            (_, false) => bits.put(if r.once_in(3) { 0b111 } else { 0b011 }, 3),
-            (3, true) => {
-                let most = (count - made).min(256);
-                pixels = if r.once_in(3) { most } else { r.range(1, most) };
-                bits.put_run(pixels);
-            }
-            (_, true) => {
-                let d = r.pick(&[0, 1, 2, 3, 5, 6, 7]);
-                bits.put(d << 2 | 0b11, 5);
-            }
+    (code - start) as usize + 4
+}
+
+/// One operation under `code`, where `left` pixels are to be made: how many of them it makes.
+pub fn put_operation(r: &mut Rng, bits: &mut Bits, code: u8, operation: Operation, left: usize) -> usize {
+    let mut pixels = 1;
+    match (operation, is_second(code)) {
+        (Operation::Keep, _) => bits.put(0, 1),
+        (Operation::Index, _) => {
+            bits.put(0b01, 2);
+            bits.put(r.byte() as usize, index_bits(code));
         }
-        made += pixels;
+        (Operation::Step, false) => bits.put(if r.once_in(3) { 0b111 } else { 0b011 }, 3),
+        (Operation::Step, true) => {
+            let d = r.pick(&[0, 1, 2, 3, 5, 6, 7]);
+            bits.put(d << 2 | 0b11, 5);
+        }
+        (Operation::Run, _) => {
+            let most = left.min(256);
+            pixels = if r.once_in(3) { most } else { r.range(1, most) };
+            bits.put_run(pixels);
+        }
     }
+    pixels
+}
+
+/// Operations under `code` that make the pixels after the first one, exactly until there are `count`: the bit at which each begins, and what it is.
+pub fn put_operations(r: &mut Rng, bits: &mut Bits, code: u8, count: usize) -> Vec<(usize, Operation)> {
+    use Operation::*;
+    let kinds = [Keep, Index, Step, if is_second(code) { Run } else { Step }];
+    let (share, mut made, mut put) = (r.pick(&SHARES), 1, vec![]);
+    while made < count {
+        let operation = kinds[r.share(&share)];
+        put.push((bits.used, operation));
+        made += put_operation(r, bits, code, operation, count - made);
+    }
+    put
 }
 
 /// A body that ends with a run past the strip's end, where at most 255 pixels are left.
