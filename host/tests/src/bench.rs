@@ -1,5 +1,6 @@
 //! Runs one call on the library and on the reference, compares every byte, and keeps the count.
 
+use crate::end_count::EndCount;
 use crate::lent::Slot;
 use crate::rng::Rng;
 use crate::shapes::{shapes, Shape};
@@ -29,7 +30,7 @@ pub const CALLS: [&str; 17] = [
 const NUMBERS: [u32; 16] = [0, 1, 2, 3, 4, 5, 6, 7, 8, 9, 10, 11, 12, 13, 14, 15];
 
 /// Where a deliberate body is read. A full run must have reached them all in both.
-#[derive(Clone, Copy)]
+#[derive(Clone, Copy, Debug, PartialEq, Eq, PartialOrd, Ord)]
 pub enum Place {
     Background,
     Image,
@@ -59,6 +60,10 @@ pub struct Bench {
     counts: BTreeMap<(usize, u32), u64>,
     /// How often each deliberate body was read as it must be, by place.
     shapes: BTreeMap<Shape, [u64; 2]>,
+    /// The same for the deliberate ends of bodies.
+    pub ends: EndCount,
+    /// Whether a call's first buffer, its room, ends with its page; else it may stand anywhere. A scene begins without it.
+    pub room_at_page_end: bool,
     differences: BTreeMap<String, u64>,
 }
 
@@ -74,6 +79,8 @@ impl Bench {
             cases: 0,
             counts: BTreeMap::new(),
             shapes: shapes().into_iter().map(|shape| (shape, [0; 2])).collect(),
+            ends: EndCount::default(),
+            room_at_page_end: false,
             differences: BTreeMap::new(),
         }
     }
@@ -84,7 +91,23 @@ impl Bench {
         unsafe { alarm(120) };
         self.place = Rng::new(!seed);
         self.seed = seed;
+        self.room_at_page_end = false;
         Rng::new(seed)
+    }
+
+    /// Where the last call's first buffer began.
+    pub fn room_address(&self) -> usize {
+        self.slots[0].address()
+    }
+
+    /// Lends copies of the buffers.
+    fn lend(&mut self, buffers: &[(&str, &[u8])]) -> Vec<*mut u8> {
+        let mut pointers = Vec::new();
+        for (i, (slot, (_, bytes))) in self.slots.iter_mut().zip(buffers).enumerate() {
+            let place = self.place.pick(&[0, 0, 0, 0, 1, 1, 2, 3, 5]);
+            pointers.push(slot.lend(bytes, if i == 0 && self.room_at_page_end { 0 } else { place }));
+        }
+        pointers
     }
 
     /// A difference: printed the first three times of its kind, counted always.
@@ -117,11 +140,7 @@ impl Bench {
     ) -> (u32, u64, Vec<Vec<u8>>) {
         let index = CALLS.iter().position(|known| *known == call).unwrap();
         CALL.store(index, Relaxed);
-        let mut pointers = Vec::new();
-        for (slot, (_, bytes)) in self.slots.iter_mut().zip(buffers) {
-            pointers.push(slot.lend(bytes, self.place.pick(&[0, 0, 0, 0, 1, 1, 2, 3, 5])));
-        }
-        let got = library(&pointers);
+        let got = library(&self.lend(buffers));
         let mut after: Vec<Vec<u8>> = buffers.iter().map(|(_, bytes)| bytes.to_vec()).collect();
         let (number, want) = reference(&mut after);
         self.cases += 1;
@@ -179,7 +198,10 @@ impl Bench {
     /// The tables, and whether all is well; a full run must have reached everything.
     pub fn report(&self, full: bool) -> bool {
         let mut missing = self.numbers();
-        missing.extend(if full { self.bodies() } else { vec![] });
+        if full {
+            missing.extend(self.bodies());
+            missing.extend(self.ends.report());
+        }
         if full && !missing.is_empty() {
             println!("never reached: {missing:?}");
         }

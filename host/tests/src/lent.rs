@@ -53,6 +53,11 @@ impl Slot {
         self.base.wrapping_add(start)
     }
 
+    /// Where the lent bytes begin.
+    pub fn address(&self) -> usize {
+        self.base as usize + self.start
+    }
+
     /// The first byte that isn't as wanted: its index (guards lie below 0 and from the size on), what it is, what it should be.
     pub fn differs(&mut self, want: &[u8]) -> Option<(i64, u8, u8)> {
         let (start, size) = (self.start, self.size);

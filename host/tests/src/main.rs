@@ -1,7 +1,7 @@
 //! Differential tests: the library's C interface against the reference.
 //!
-//!     tests [SEEDS]          seeds 0 to SEEDS − 1, then the table
-//!     tests soak SECONDS     new seeds until the time is over
+//!     tests [SEEDS]          seeds 0 to SEEDS − 1, the planned ends of bodies, then the tables
+//!     tests soak SECONDS     new seeds until the time is over, and the same
 //!     tests seed SEED        one seed again
 //!     tests room FILE        the calls on a room from a file
 //!     tests speed            library : reference for loads of 640 × 200 rooms
@@ -11,6 +11,9 @@ mod bench;
 mod calls;
 mod costume_scenes;
 mod damage;
+mod end_count;
+mod end_scenes;
+mod ends;
 mod lent;
 mod maker;
 mod point_scenes;
@@ -31,10 +34,14 @@ use std::time::{Duration, Instant, SystemTime};
 /// About 90 seconds on one core.
 const SEEDS: u64 = 100_000;
 
+/// A seed from here on is a code's planned ends of bodies. A full run takes one for each code, so that none is left to chance.
+const ENDS: u64 = 1 << 63;
+
 fn run(b: &mut Bench, seed: u64) {
     let mut r = b.scene(seed);
     let r = &mut r;
     match seed % 40 {
+        _ if seed >= ENDS => end_scenes::planned(b, r, (seed - ENDS) as usize),
         0..=6 => room_scenes::good(b, r),
         7..=12 => room_scenes::damaged(b, r),
         13..=15 => room_scenes::order(b, r),
@@ -42,6 +49,7 @@ fn run(b: &mut Bench, seed: u64) {
         17 | 18 => room_scenes::flipped(b, r),
         19 => room_scenes::arbitrary(b, r),
         20 if r.once_in(8) => room_scenes::every_cut(b, r),
+        20 if r.once_in(8) => end_scenes::any_end(b, r),
         21 if r.once_in(40) => room_scenes::at_the_limit(b, r),
         21 if r.once_in(2) => shape_scenes::every_shape(b, r),
         20 | 21 => room_scenes::damaged(b, r),
@@ -111,6 +119,9 @@ fn main() {
         }
         Some(_) => (0..number(0).expect("tests [SEEDS]")).for_each(|seed| run(b, seed)),
         None => (0..SEEDS).for_each(|seed| run(b, seed)),
+    }
+    if full {
+        (ENDS..ENDS + ends::codes().len() as u64).for_each(|seed| run(b, seed));
     }
     if !b.report(full) {
         std::process::exit(1);

@@ -59,7 +59,7 @@ pub fn known(code: u8) -> bool {
     code == 1 || STARTS.iter().any(|start| (*start..start + 5).contains(&code))
 }
 
-fn is_second(code: u8) -> bool {
+pub fn is_second(code: u8) -> bool {
     known(code) && code >= 0x40
 }
 
