@@ -46,7 +46,8 @@ fn group(second: bool, w: u32, st: State, out: &mut [u8]) -> State
 // Many operations: 32 keeps at once, or three groups.
 fn groups(second: bool, w: u32, st: State, out: &mut [u8]) -> State
     requires { ⌜ (w ≤ 8) × (54 ≤ st .cur .have) × (st .cur .have ≤ 63) × (st .i + 32 ≤ 1600) × (st .i + 32 ≤ length (now out)) ⌝ }
-    ensures { λ r. ⌜ ((s : List ℕ) → runAhead second (rest s (st .cur)) ≡ false → st .i < r .i) × Advances second w 32 st (now (out .entry)) r (now (out .exit)) ⌝ }
+    ensures { λ r. ⌜ ((s : List ℕ) → runAhead second (rest s (st .cur)) ≡ false → st .i < r .i) ⌝ }
+    ensures { λ r. ⌜ Advances second w 32 st (now (out .entry)) r (now (out .exit)) ⌝ }
 {
     let cur = st.cur;
     let many = cur.take(32);

@@ -7,7 +7,8 @@ ghost use lib.ListN.{length, take, drop, replicate};
 // n copies of b into `out` from `from` on.
 pub fn fill(out: &mut [u8], from: usize, n: usize, b: u8)
     requires { ⌜ from + n ≤ length (now out) ⌝ }
-    ensures { λ _. ⌜ (take (from + n) (now (out .exit)) ≡ take from (now (out .entry)) ++ replicate n b) × (drop (from + n) (now (out .exit)) ≡ drop (from + n) (now (out .entry))) ⌝ }
+    ensures { λ _. ⌜ take (from + n) (now (out .exit)) ≡ take from (now (out .entry)) ++ replicate n b ⌝ }
+    ensures { λ _. ⌜ drop (from + n) (now (out .exit)) ≡ drop (from + n) (now (out .entry)) ⌝ }
 {
     let mut k: usize = 0;
     while k < n {
