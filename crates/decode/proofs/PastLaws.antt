@@ -1,11 +1,11 @@
 -- Laws of the test's steps: past a row's operations, past what a step gives, and from one place to the next.
 use mathlib.Core.Path.{_≡_, sym, ap, ap₂, _∙_, subst}
 use mathlib.Core.Bool.{Bool, true, false, cond}
-use mathlib.Core.List.{List, [], _∷_, _++_, append-assoc}
-use Prim.Native.Nat.{ℕ, zero, suc, _+_, _-_, _*_, _/_, _%_, _^_, _≤_, _<_}
+use mathlib.Core.List.{List, [], _∷_, _++_}
+use Prim.Native.Nat.{ℕ, zero, suc, _+_, _-_, _*_, _/_, _%_, _≤_, _<_}
 use native.Mathlib.Omega.{arith}
 use lib.Dec.{eqb}
-use lib.ListN.{getD, length, drop, length-append, replicate}
+use lib.ListN.{getD, length, drop, replicate}
 use Rattle.bits.specs.declared.Cursor.{Cursor}
 use Rattle.bits.specs.Bits.{lowBits, rest, Held}
 use Rattle.bits.specs.Reader.{Hands}

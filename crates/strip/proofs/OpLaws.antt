@@ -2,7 +2,7 @@
 use mathlib.Core.Path.{_≡_, refl, sym, ap, _∙_}
 use mathlib.Core.Bool.{Bool, true, false, cond, true≢false}
 use mathlib.Core.List.{List, [], _∷_, _++_}
-use Prim.Native.Nat.{ℕ, zero, suc, _+_, _-_, _/_, _%_, _^_, _≤_, _<_}
+use Prim.Native.Nat.{ℕ, zero, suc, _+_, _-_, _/_, _%_, _≤_, _<_}
 use native.Mathlib.Omega.{arith}
 use borrow.Author.Tests.{ne-eqb}
 use lib.Dec.{eqb}
@@ -12,7 +12,7 @@ use Rattle.bits.specs.Bits.{lowBits, got, pull, rest}
 use Rattle.bits.specs.Reader.{Hands, Shows, One}
 use Rattle.bits.proofs.BitLaws.{pull-is, pull-long, pull-short}
 use Rattle.bits.proofs.CursorLaws.{hands-shows}
-use Rattle.strip.specs.Strip.{plus, minus, refuse, go, choose, indexOp, walkOp, runPixels, runOp, changeOp, opOf}
+use Rattle.strip.specs.Strip.{plus, minus, refuse, go, indexOp, walkOp, runPixels, runOp, changeOp, opOf}
 use Rattle.strip.specs.declared.State.{State}
 use Rattle.strip.specs.Place.{opLength, secondBit, runAhead, LeadsTo}
 

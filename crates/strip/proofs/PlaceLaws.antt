@@ -1,10 +1,8 @@
 -- Laws of places in a strip: what an operation, many keeps and a refusal come to.
 use mathlib.Core.Path.{_≡_, refl, sym, ap, _∙_}
 use mathlib.Core.Bool.{Bool, true, false, _&&_, true≢false}
-use mathlib.Core.Logic.{by-cases}
-use mathlib.Core.List.{List, [], _∷_, _++_}
+use mathlib.Core.List.{List, _∷_, _++_}
 use Prim.Native.Nat.{ℕ, zero, suc, _+_, _-_, _%_, _≤_, _<_}
-use native.Mathlib.Decide.{decLt}
 use native.Mathlib.Omega.{arith}
 use borrow.Author.Tests.{eqb-true}
 use lib.Dec.{eqb}
@@ -12,12 +10,12 @@ use lib.ListN.{length, replicate}
 use Rattle.bits.specs.declared.Cursor.{Cursor}
 use Rattle.bits.specs.Bits.{lowBits, Pull, short, got, pull, rest, Held, Full}
 use Rattle.bits.specs.Reader.{Hands, One}
-use Rattle.bits.proofs.BitLaws.{pull-is, pull-long, pull-short, pull-zeros, got-value, got-tail}
+use Rattle.bits.proofs.BitLaws.{pull-is, pull-long, pull-short, pull-zeros, got-tail}
 use Rattle.bits.proofs.CursorLaws.{all-in-hand}
 use Rattle.strip.specs.declared.State.{State}
 use Rattle.strip.specs.declared.Next.the-variants.{Go}
 use Rattle.strip.specs.Strip.{Move, refuse, go, runPixels, opOf, refused, glue, decode}
-use Rattle.strip.specs.Place.{isRun, runAhead, ahead, Gives, Stepped, LeadsTo, Leads, keptBy}
+use Rattle.strip.specs.Place.{isRun, runAhead, ahead, Gives, Stepped, Leads, keptBy}
 use Rattle.strip.proofs.StripLaws.{glue-none, glue-glue, decode-op, decode-past, decode-refuse}
 use Rattle.strip.proofs.OpLaws.{op-keep, op-run, op-none, run-cut}
 

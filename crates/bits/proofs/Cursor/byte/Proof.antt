@@ -10,31 +10,24 @@ use Rattle.bits.proofs.Cursor.byte.Tie as tie
 use Rattle.bits.proofs.Cursor.byte.Reads as reads
 use Rattle.bits.proofs.Cursor.byte.Lts as lts
 
--- src/lib.rt:62:17
 add-t4 : tie.Need-add-t4
 add-t4 c = search needs
 
--- src/lib.rt:63:19
 add-t5 : tie.Need-add-t5
 add-t5 c = search needs
 
--- src/lib.rt:64:33
 shared-slice-read-t7 : tie.Need-shared-slice-read-t7
 shared-slice-read-t7 c = search needs
 
--- src/lib.rt:64:33
 cast-t8 : tie.Need-cast-t8
 cast-t8 c = omega (arith, c .shared-slice-known .given (c .before .before .args .self .at))
 
--- src/lib.rt:64:53
 cast-t9 : tie.Need-cast-t9
 cast-t9 c = search needs
 
--- src/lib.rt:64:32
 shl-t10 : tie.Need-shl-t10
 shl-t10 c = search needs
 
--- src/lib.rt:64:19
 add-t11 : tie.Need-add-t11
 add-t11 c =
     let s = now (c .before .before .before .before .args .body) in
@@ -43,7 +36,6 @@ add-t11 c =
     let byte = c .before .before .shared-slice-known .given (c .before .before .before .before .args .self .at) .fits in
     rw (shift-exact s (c .before .before .before .before .args .self) held (c .before .before .before .before .args .self .at + 1) 8 b (omega (arith, c .before .before .before .before .pre .1)) byte (omega (arith, c .before .before .before .before .pre .2))) (record { fits = sum-fits s (c .before .before .before .before .args .self) held (c .before .before .before .before .args .self .at + 1) 8 b (omega (arith, c .before .before .before .before .pre .1)) byte (omega (arith, c .before .before .before .before .pre .2)) })
 
--- src/lib.rt:56:5
 returns : tie.Need-returns
 returns c =
     let entry = c .before .before .before .before in

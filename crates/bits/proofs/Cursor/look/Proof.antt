@@ -9,22 +9,18 @@ use Rattle.bits.proofs.Cursor.look.Tie as tie
 use Rattle.bits.proofs.Cursor.look.Reads as reads
 use Rattle.bits.proofs.Cursor.look.Lts as lts
 
--- src/lib.rt:83:25
 shl-size : tie.Need-shl-size
 shl-size c = search needs
 
--- src/lib.rt:84:10
 rem-result : tie.Need-rem-result
 rem-result c = rw (size-of (c .before .args .n) (omega (arith, c .before .pre))) (pow-pos (c .before .args .n))
 
--- src/lib.rt:84:9
 cast-result : tie.Need-cast-result
 cast-result c =
     let a = c .before .args in
     let few : 2 ^ (a .n) ≤ 2 ^ 8 = pow-mono (c .before .pre) in
     rw (size-of (a .n) (omega (arith, c .before .pre))) (record { fits = lt-of-lt-of-le (mod-lt (a .self .hand) (pow-pos (a .n))) few })
 
--- src/lib.rt:79:5
 returns : tie.Need-returns
 returns c = λ le.
     let a = c .before .args in

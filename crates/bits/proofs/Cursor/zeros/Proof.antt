@@ -8,15 +8,12 @@ use Rattle.bits.proofs.Cursor.zeros.Reads as reads
 use Rattle.bits.proofs.Cursor.zeros.Lts as lts
 use Rattle.bits.proofs.Cursor.take.Reads as take-reads
 
--- src/lib.rt:69:41
 add-count : tie.Need-add-count
 add-count c = search needs
 
--- src/lib.rt:70:20
 take-requires : tie.Need-take-requires
 take-requires c κs = (omega (arith, zeros-few (c .before .args .self .hand), c .before .pre .0), c .before .pre .1)
 
--- src/lib.rt:65:5
 returns : tie.Need-returns
 returns c =
     let self = c .before .before .before .args .self in

@@ -22,23 +22,18 @@ use Rattle.strip.proofs.operations.kept.Reads as kept-reads
 use Rattle.strip.proofs.operations.op.Reads as op-reads
 use Rattle.strip.proofs.operations.run_at.Reads as run-at-reads
 
--- src/painting.rt:30:9
 zeros-requires : tie.Need-zeros-requires
 zeros-requires c κs = search needs
 
--- src/painting.rt:32:5
 fill-requires : tie.Need-fill-requires
 fill-requires c κs = search needs
 
--- src/painting.rt:33:9
 kept-requires : tie.Need-kept-requires
 kept-requires c κs = search needs
 
--- src/painting.rt:35:9
 same-length : tie.Need-same-length
 same-length c = search needs
 
--- src/painting.rt:35:9
 returns : tie.Need-returns
 returns c =
     let a = c .before .before .before .before .before .before .before .before .before .before .before .args in
@@ -55,15 +50,12 @@ returns c =
           (fill-part (now (a .out)) (painted .last .0) (st .i) 8 k (st .colour) (omega (arith, c .before .before .before .before .before .before .before .before .before .before .before .pre .4)) few (painted .ensures .0)),
     )
 
--- src/painting.rt:37:8
 run-at-requires : tie.Need-run-at-requires
 run-at-requires c κs = search needs
 
--- src/painting.rt:38:9
 same-length-2 : tie.Need-same-length-2
 same-length-2 c = search needs
 
--- src/painting.rt:38:9
 returns-2 : tie.Need-returns-2
 returns-2 c =
     let a = c .before .before .before .before .before .before .before .before .before .before .before .before .before .args in
@@ -81,7 +73,6 @@ returns-2 c =
           (fill-part (now (a .out)) (painted .last .0) (st .i) 8 k (st .colour) (omega (arith, c .before .before .before .before .before .before .before .before .before .before .before .before .before .pre .4)) few (painted .ensures .0)),
     )
 
--- src/painting.rt:40:9
 op-requires : tie.Need-op-requires
 op-requires c κs =
     let few = c .before .before .before .before .before .before .before .before .before .before .zeros .ensures .0 in
@@ -93,16 +84,13 @@ op-requires c κs =
       omega (arith, few, c .before .before .before .before .before .before .before .before .before .before .before .before .before .pre .3),
     )
 
--- src/painting.rt:42:5
 slice-write-out : tie.Need-slice-write-out
 slice-write-out c =
     omega (arith, ap (λ (q : State). q .i) (c .before .before .before .before .before .kept .ensures), c .before .before .before .before .before .before .before .before .before .before .before .zeros .ensures .0, c .before .before .before .before .before .before .before .before .before .before .before .before .before .before .pre .4, c .before .before .before .before .before .before .before .before .fill .kept .0)
 
--- src/painting.rt:25:1
 same-length-3 : tie.Need-same-length-3
 same-length-3 c = search needs
 
--- src/painting.rt:25:1
 returns-3 : tie.Need-returns-3
 returns-3 c =
     let a = c .before .before .before .before .before .before .before .before .before .before .before .before .before .before .args in

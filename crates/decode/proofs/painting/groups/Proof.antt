@@ -14,23 +14,18 @@ use Rattle.decode.proofs.painting.group.Reads as group-reads
 use Rattle.strip.proofs.filling.fill.Reads as fill-reads
 use Rattle.strip.proofs.operations.kept.Reads as kept-reads
 
--- src/painting.rt:52:9
 take-requires : tie.Need-take-requires
 take-requires c κs = search needs
 
--- src/painting.rt:55:9
 fill-requires : tie.Need-fill-requires
 fill-requires c κs = search needs
 
--- src/painting.rt:56:9
 kept-requires : tie.Need-kept-requires
 kept-requires c κs = search needs
 
--- src/painting.rt:56:9
 same-length : tie.Need-same-length
 same-length c = search needs
 
--- src/painting.rt:56:9
 returns : tie.Need-returns
 returns c =
     let a = c .before .before .before .before .before .before .before .before .before .before .before .args in
@@ -42,23 +37,18 @@ returns c =
       advances-kept (a .second) (a .w) 32 32 (a .st) (many .result .next) (now (a .out)) (painted .last .0) zeros (omega arith) (painted .ensures .0),
     )
 
--- src/painting.rt:58:9
 group-requires : tie.Need-group-requires
 group-requires c κs = search needs
 
--- src/painting.rt:59:9
 group-requires-2 : tie.Need-group-requires-2
 group-requires-2 c κs = search needs
 
--- src/painting.rt:60:5
 group-requires-3 : tie.Need-group-requires-3
 group-requires-3 c κs = search needs
 
--- src/painting.rt:47:1
 same-length-2 : tie.Need-same-length-2
 same-length-2 c = search needs
 
--- src/painting.rt:47:1
 returns-2 : tie.Need-returns-2
 returns-2 c =
     let a = c .before .before .before .before .before .before .before .before .before .before .before .before .before .before .before .before .before .args in

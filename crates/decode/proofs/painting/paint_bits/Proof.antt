@@ -26,19 +26,15 @@ Inv-loop body second w total out₀ first st₀ out st =
 abbrev μ-loop : tie.MeasureT-loop
 μ-loop body second w total out₀ first st₀ out st = total - st .i
 
--- src/painting.rt:85:17
 shared-slice-read-first : tie.Need-shared-slice-read-first Inv-loop μ-loop
 shared-slice-read-first c = omega (arith, c .before .before .before .pre .3)
 
--- src/painting.rt:86:5
 slice-write-out : tie.Need-slice-write-out Inv-loop μ-loop
 slice-write-out c = omega (arith, c .before .before .before .pre .1, c .before .before .before .pre .4)
 
--- src/painting.rt:91:14
 new-requires : tie.Need-new-requires Inv-loop μ-loop
 new-requires c κs = tt
 
--- src/painting.rt:93:5
 loop-holds : tie.Need-loop-holds Inv-loop μ-loop
 loop-holds c =
     let a = c .before .before .before .before .args in
@@ -52,39 +48,32 @@ loop-holds c =
           ∙ ap (λ (l : List Bool). glue (take 1 (set (now (a .out)) 0 first)) (decode (a .second) (a .w) (a .total - 1) 0 first 1 l)) (sym (e .all s)),
     )
 
--- src/painting.rt:94:15
 turn-requires : tie.Need-turn-requires Inv-loop μ-loop
 turn-requires c κs =
     let size = c .before .before .before .loop .inv .1 ∙ length-set (now (c .before .before .before .before .before .before .before .before .args .out)) 0 (getD (now (c .before .before .before .before .before .before .before .before .args .body)) 1 0) in
     (c .before .before .before .before .before .before .before .before .pre .0, c .before .before .before .loop .inv .2, c .before .if1 .taken, c .before .before .before .before .before .before .before .before .pre .2, omega (arith, size, c .before .before .before .before .before .before .before .before .pre .4))
 
--- src/painting.rt:95:22
 enum-known-to : tie.Need-enum-known-to Inv-loop μ-loop
 enum-known-to c = search needs
 
--- src/painting.rt:93:5
 loop-less : tie.Need-loop-less Inv-loop μ-loop
 loop-less c =
     let a = c .before .before .before .before .before .before .before .before .before .before .before .before .before .before .args in
     let e = turned-as (a .second) (a .w) (a .total) (now (a .body)) (c .before .before .before .before .before .before .before .before .before .loop .st) (c .before .before .before .before .before .before .before .before .before .loop .out) _ (c .before .to .given .1) (c .before .before .before .before .before .turn .ensures) in
     omega (arith, e .0, e .1)
 
--- src/painting.rt:93:5
 loop-again : tie.Need-loop-again Inv-loop μ-loop
 loop-again c =
     let a = c .before .before .before .before .before .before .before .before .before .before .before .before .before .before .args in
     let e = turned-as (a .second) (a .w) (a .total) (now (a .body)) (c .before .before .before .before .before .before .before .before .before .loop .st) (c .before .before .before .before .before .before .before .before .before .loop .out) _ (c .before .to .given .1) (c .before .before .before .before .before .turn .ensures) in
     (e .1, c .before .before .before .before .before .turn .kept .1 .1 .1 .1 .1 .0 ∙ c .before .before .before .before .before .before .before .before .before .loop .inv .1, e .2, e .3 .on _ (c .before .before .before .before .before .before .before .before .before .loop .inv .3))
 
--- src/painting.rt:98:26
 enum-known-n : tie.Need-enum-known-n Inv-loop μ-loop
 enum-known-n c = search needs
 
--- src/painting.rt:99:17
 same-length : tie.Need-same-length Inv-loop μ-loop
 same-length c = c .before .before .before .before .before .turn .kept .1 .1 .1 .1 .1 .0 ∙ c .before .before .before .before .before .before .before .before .before .loop .inv .1 ∙ length-set (now (c .before .before .before .before .before .before .before .before .before .before .before .before .before .before .args .out)) 0 (getD (now (c .before .before .before .before .before .before .before .before .before .before .before .before .before .before .args .body)) 1 0)
 
--- src/painting.rt:99:17
 returns : tie.Need-returns Inv-loop μ-loop
 returns c =
     let a = c .before .before .before .before .before .before .before .before .before .before .before .before .before .before .args in
@@ -92,11 +81,9 @@ returns c =
     let e = turned-as (a .second) (a .w) (a .total) s (c .before .before .before .before .before .before .before .before .before .loop .st) (c .before .before .before .before .before .before .before .before .before .loop .out) _ (c .before .n .given .1) (c .before .before .before .before .before .turn .ensures) in
     paint-no (a .second) (a .w) (a .total) s _ (c .before .before .before .before .before .before .before .before .before .loop .out) (c .before .before .before .before .before .before .before .before .before .loop .st) (c .before .before .before .before .before .before .before .before .before .loop .inv .3) _ e
 
--- src/painting.rt:81:1
 same-length-2 : tie.Need-same-length-2 Inv-loop μ-loop
 same-length-2 c = c .before .before .loop .inv .1 ∙ length-set (now (c .before .before .before .before .before .before .before .args .out)) 0 (getD (now (c .before .before .before .before .before .before .before .args .body)) 1 0)
 
--- src/painting.rt:81:1
 returns-2 : tie.Need-returns-2 Inv-loop μ-loop
 returns-2 c =
     let a = c .before .before .before .before .before .before .before .args in

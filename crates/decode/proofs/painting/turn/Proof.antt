@@ -13,26 +13,21 @@ use Rattle.strip.proofs.operations.step.Reads as step-reads
 use Rattle.decode.proofs.painting.group.Reads as group-reads
 use Rattle.decode.proofs.painting.groups.Reads as groups-reads
 
--- src/painting.rt:64:9
 filled-requires : tie.Need-filled-requires
 filled-requires c κs = search needs
 
--- src/painting.rt:65:8
 fits-requires : tie.Need-fits-requires
 fits-requires c κs = search needs
 
--- src/painting.rt:66:25
 groups-requires : tie.Need-groups-requires
 groups-requires c κs =
     let f = c .before .before .before .filled .ensures in
     let ok = c .before .before .fits2 .ensures (c .before .if1 .taken) in
     (c .before .before .before .before .before .before .pre .0, ok .enough, f .3 .few, omega (arith, ok .room, c .before .before .before .before .before .before .pre .3), omega (arith, ok .room, c .before .before .before .before .before .before .pre .4))
 
--- src/painting.rt:66:9
 same-length : tie.Need-same-length
 same-length c = search needs
 
--- src/painting.rt:66:9
 returns : tie.Need-returns
 returns c =
     let a = c .before .before .before .before .before .before .before .before .before .args in
@@ -40,22 +35,18 @@ returns c =
     let ok = c .before .before .before .before .before .fits2 .ensures (c .before .before .before .before .if1 .taken) in
     turned-many (a .second) (a .w) (a .total) (now (a .body)) (a .from) (c .before .before .before .before .before .before .filled .result) (f .0) (f .1) (f .2) (f .5) 32 (c .before .before .groups .result) (now (a .out)) _ (c .before .before .groups .ensures .1) (c .before .before .groups .ensures .0 (now (a .body)) (ok .none (now (a .body)))) (ok .room) (f .3)
 
--- src/painting.rt:68:8
 fits-requires-2 : tie.Need-fits-requires-2
 fits-requires-2 c κs = search needs
 
--- src/painting.rt:69:25
 group-requires : tie.Need-group-requires
 group-requires c κs =
     let f = c .before .before .before .before .before .filled .ensures in
     let ok = c .before .before .fits3 .ensures (c .before .if2 .taken) in
     (c .before .before .before .before .before .before .before .before .pre .0, ok .enough, f .3 .few, omega (arith, ok .room, c .before .before .before .before .before .before .before .before .pre .3), omega (arith, ok .room, c .before .before .before .before .before .before .before .before .pre .4))
 
--- src/painting.rt:69:9
 same-length-2 : tie.Need-same-length-2
 same-length-2 c = search needs
 
--- src/painting.rt:69:9
 returns-2 : tie.Need-returns-2
 returns-2 c =
     let a = c .before .before .before .before .before .before .before .before .before .before .before .args in
@@ -63,15 +54,12 @@ returns-2 c =
     let ok = c .before .before .before .before .before .fits3 .ensures (c .before .before .before .before .if2 .taken) in
     turned-many (a .second) (a .w) (a .total) (now (a .body)) (a .from) (c .before .before .before .before .before .before .before .before .filled .result) (f .0) (f .1) (f .2) (f .5) 9 (c .before .before .group .result) (now (a .out)) _ (c .before .before .group .ensures .3) (c .before .before .group .ensures .2 (now (a .body)) (ok .none (now (a .body)))) (ok .room) (f .3)
 
--- src/painting.rt:71:11
 step-requires : tie.Need-step-requires
 step-requires c κs = search needs
 
--- src/painting.rt:72:18
 enum-known-to : tie.Need-enum-known-to
 enum-known-to c = search needs
 
--- src/painting.rt:73:29
 sub-fill : tie.Need-sub-fill
 sub-fill c =
     let a = c .before .before .before .before .before .before .before .before .before .before .before .before .before .before .args in
@@ -79,7 +67,6 @@ sub-fill c =
     let e = stepped-as (a .second) (a .w) (a .total) (now (a .body)) (c .before .before .before .before .before .before .before .before .before .before .before .filled .result) (c .before .before .before .before .to .given .1) (c .before .before .before .before .before .before .step .ensures (now (a .body)) (f .3) (f .4)) in
     omega (arith, e .0)
 
--- src/painting.rt:73:13
 fill-requires : tie.Need-fill-requires
 fill-requires c κs =
     let a = c .before .before .before .before .before .before .before .before .before .before .before .before .before .before .args in
@@ -87,15 +74,12 @@ fill-requires c κs =
     let e = stepped-as (a .second) (a .w) (a .total) (now (a .body)) (c .before .before .before .before .before .before .before .before .before .before .before .filled .result) (c .before .before .before .before .to .given .1) (c .before .before .before .before .before .before .step .ensures (now (a .body)) (f .3) (f .4)) in
     omega (arith, e .0, e .1, c .before .before .before .before .before .before .before .before .before .before .before .before .before .before .pre .4)
 
--- src/painting.rt:76:22
 enum-known-n : tie.Need-enum-known-n
 enum-known-n c = search needs
 
--- src/painting.rt:60:1
 same-length-3 : tie.Need-same-length-3
 same-length-3 c = search needs
 
--- src/painting.rt:60:1
 returns-3 : tie.Need-returns-3
 returns-3 c =
     let a = c .before .before .before .before .before .before .before .before .before .before .before .before .before .before .before .before .before .args in
@@ -103,7 +87,6 @@ returns-3 c =
     let e = stepped-as (a .second) (a .w) (a .total) (now (a .body)) (c .before .before .before .before .before .before .before .before .before .before .before .before .before .before .filled .result) (c .before .before .before .before .before .before .before .to .given .1) (c .before .before .before .before .before .before .before .before .before .step .ensures (now (a .body)) (f .3) (f .4)) in
     turned-one (a .second) (a .w) (a .total) (now (a .body)) (a .from) (c .before .before .before .before .before .before .before .before .before .before .before .before .before .before .filled .result) (f .0) (f .1) (f .2) (f .5) _ (now (a .out)) _ e (c .before .before .fill .ensures .0)
 
--- src/painting.rt:60:1
 returns-4 : tie.Need-returns-4
 returns-4 c =
     let a = c .before .before .before .before .before .before .before .before .before .before .before .args in

@@ -12,15 +12,12 @@ use Rattle.bits.proofs.Cursor.take.Reads as take-reads
 use Rattle.decode.proofs.test.past.Reads as past-reads
 use Rattle.strip.proofs.operations.kept.Reads as kept-reads
 
--- src/test.rt:61:9
 take-requires : tie.Need-take-requires
 take-requires c κs = search needs
 
--- src/test.rt:64:9
 kept-requires : tie.Need-kept-requires
 kept-requires c κs = search needs
 
--- src/test.rt:64:9
 returns : tie.Need-returns
 returns c =
     let a = c .before .before .before .before .before .before .before .args in
@@ -33,19 +30,15 @@ returns c =
       λ second s rows. kept-went second (a .w) s (a .st) 32 (many .result .next) zeros,
     )
 
--- src/test.rt:66:9
 past-requires : tie.Need-past-requires
 past-requires c κs = search needs
 
--- src/test.rt:67:9
 past-requires-2 : tie.Need-past-requires-2
 past-requires-2 c κs = search needs
 
--- src/test.rt:68:5
 past-requires-3 : tie.Need-past-requires-3
 past-requires-3 c κs = search needs
 
--- src/test.rt:56:1
 returns-2 : tie.Need-returns-2
 returns-2 c =
     let a = c .before .before .before .before .before .before .before .before .args in

@@ -16,28 +16,23 @@ use Rattle.bits.proofs.Cursor.take.Reads as take-reads
 use Rattle.decode.proofs.test.reach_of.Reads as reach-of-reads
 use Rattle.decode.proofs.test.wide.Reads as wide-reads
 
--- src/test.rt:45:25
 take-requires : tie.Need-take-requires
 take-requires c κs = search needs
 
--- src/test.rt:45:20
 mul-wide : tie.Need-mul-wide
 mul-wide c =
     let few : c .take .result .bits < 256 = hands-small (c .take .ensures) in
     omega (arith, few)
 
--- src/test.rt:45:20
 shared-slice-read-wide : tie.Need-shared-slice-read-wide
 shared-slice-read-wide c =
     let seen = c .before .take in
     let few : seen .result .bits < 256 = hands-small (seen .ensures) in
     omega (arith, few, c .before .before .before .before .pre .0)
 
--- src/test.rt:45:9
 wide-requires : tie.Need-wide-requires
 wide-requires c κs = search needs
 
--- src/test.rt:46:25
 reach-of-requires : tie.Need-reach-of-requires
 reach-of-requires c κs =
     let seen = c .before .before .take in
@@ -45,15 +40,12 @@ reach-of-requires c κs =
     let small = c .before .before .before .before .before .pre .1 (seen .result .bits) few in
     rw (c .wide .ensures) (small .0, small .2, c .before .before .before .before .before .pre .2)
 
--- src/test.rt:46:16
 take-requires-2 : tie.Need-take-requires-2
 take-requires-2 c κs = search needs
 
--- src/test.rt:48:12
 add-t13 : tie.Need-add-t13
 add-t13 c = search needs
 
--- src/test.rt:40:1
 returns : tie.Need-returns
 returns c =
     let a = c .before .before .before .before .before .before .before .before .before .args in

@@ -23,51 +23,42 @@ Inv-loop body second w total rows st₀ st =
 abbrev μ-loop : tie.MeasureT-loop
 μ-loop body second w total rows st₀ st = total - st .i
 
--- src/test.rt:106:14
 new-requires : tie.Need-new-requires Inv-loop μ-loop
 new-requires c κs = tt
 
--- src/test.rt:108:5
 loop-holds : tie.Need-loop-holds Inv-loop μ-loop
 loop-holds c =
     let a = c .before .before .before .args in
     let e = c .new .ensures in
     (c .before .before .before .pre .1, e .held (now (a .body)) (c .before .before .before .pre .3), tally-start (a .second) (a .w) (a .total) (bitsOf (drop 2 (now (a .body)))) (c .before .before .before .pre .1) ∙ ap (λ (l : List Bool). tally (a .second) (a .w) (a .total - 1) 0 l) (sym (e .all (now (a .body)))))
 
--- src/test.rt:109:15
 turn-requires : tie.Need-turn-requires Inv-loop μ-loop
 turn-requires c κs = (c .before .before .before .before .before .before .pre .0, c .before .before .loop .inv .1, c .if1 .taken, c .before .before .before .before .before .before .pre .2, c .before .before .before .before .before .before .pre .4, c .before .before .before .before .before .before .pre .5)
 
--- src/test.rt:110:22
 enum-known-to : tie.Need-enum-known-to Inv-loop μ-loop
 enum-known-to c = search needs
 
--- src/test.rt:108:5
 loop-less : tie.Need-loop-less Inv-loop μ-loop
 loop-less c =
     let a = c .before .before .before .before .before .before .before .before .before .before .args in
     let e = tested-as (a .second) (a .w) (a .total) (now (a .body)) (c .before .before .before .before .before .before .loop .st) (c .before .to .given .1) (c .before .before .before .turn .ensures) in
     omega (arith, e .0, e .1)
 
--- src/test.rt:108:5
 loop-again : tie.Need-loop-again Inv-loop μ-loop
 loop-again c =
     let a = c .before .before .before .before .before .before .before .before .before .before .args in
     let e = tested-as (a .second) (a .w) (a .total) (now (a .body)) (c .before .before .before .before .before .before .loop .st) (c .before .to .given .1) (c .before .before .before .turn .ensures) in
     (e .1, e .2, c .before .before .before .before .before .before .loop .inv .2 ∙ e .3)
 
--- src/test.rt:113:26
 enum-known-n : tie.Need-enum-known-n Inv-loop μ-loop
 enum-known-n c = search needs
 
--- src/test.rt:114:17
 returns : tie.Need-returns Inv-loop μ-loop
 returns c =
     let a = c .before .before .before .before .before .before .before .before .before .before .args in
     let e = tested-as (a .second) (a .w) (a .total) (now (a .body)) (c .before .before .before .before .before .before .loop .st) (c .before .n .given .1) (c .before .before .before .turn .ensures) in
     sym (c .before .before .before .before .before .before .loop .inv .2 ∙ e)
 
--- src/test.rt:98:1
 returns-2 : tie.Need-returns-2 Inv-loop μ-loop
 returns-2 c =
     let a = c .before .before .before .before .before .before .args in

@@ -1,10 +1,9 @@
 use Rattle.strip.proofs.OpLaws.{first-leads}
-use Rattle.strip.specs.Place.{secondBit}
 use Rattle.bits.specs.Reader.{Hands}
 use native.Mathlib.Omega.{arith}
 use lib.Dec.{eqb}
 use Prim.Native.Nat.{ℕ, _+_}
-use mathlib.Core.Path.{refl, ap, _∙_, subst, sym}
+use mathlib.Core.Path.{refl, ap, _∙_, subst}
 use mathlib.Core.Bool.{cond}
 use mathlib.Core.List.{[]}
 use borrow.Author.Needs.{needs}
@@ -18,53 +17,41 @@ use Rattle.strip.proofs.operations.either.Reads as either-reads
 use Rattle.strip.proofs.operations.length_of.Reads as length-of-reads
 use Rattle.strip.proofs.operations.less.Reads as less-reads
 
--- src/operations.rt:62:9
 take-requires : tie.Need-take-requires
 take-requires c κs = (c .before .pre .1 .two, c .before .pre .2)
 
--- src/operations.rt:65:25
 look-requires : tie.Need-look-requires
 look-requires c κs = search needs
 
--- src/operations.rt:65:46
 less-requires : tie.Need-less-requires
 less-requires c κs = search needs
 
--- src/operations.rt:65:9
 either-requires : tie.Need-either-requires
 either-requires c κs = search needs
 
--- src/operations.rt:66:9
 less-requires-2 : tie.Need-less-requires-2
 less-requires-2 c κs = search needs
 
--- src/operations.rt:67:25
 length-of-requires : tie.Need-length-of-requires
 length-of-requires c κs = search needs
 
--- src/operations.rt:67:16
 take-requires-2 : tie.Need-take-requires-2
 take-requires-2 c κs =
     let head = c .before .before .before .before .before .before .before .take in
     (rw (c .length-of .ensures .0) (c .before .before .before .before .before .before .before .before .before .pre .1 .all [] (head .result .bits) _ (head .ensures .front [])), c .before .before .before .before .before .before .before .before .before .pre .2)
 
--- src/operations.rt:69:12
 add-t16 : tie.Need-add-t16
 add-t16 c = search needs
 
--- src/operations.rt:70:38
 look-requires-2 : tie.Need-look-requires-2
 look-requires-2 c κs = search needs
 
--- src/operations.rt:70:17
 either-requires-2 : tie.Need-either-requires-2
 either-requires-2 c κs = search needs
 
--- src/operations.rt:71:15
 either-requires-3 : tie.Need-either-requires-3
 either-requires-3 c κs = search needs
 
--- src/operations.rt:57:1
 returns : tie.Need-returns
 returns c =
     let a = c .before .before .before .before .before .before .before .before .before .before .before .before .before .before .before .args in

@@ -10,27 +10,21 @@ use Rattle.strip.proofs.operations.fits.Lts as lts
 use Rattle.bits.proofs.Cursor.holds.Reads as holds-reads
 use Rattle.strip.proofs.operations.run_at.Reads as run-at-reads
 
--- src/operations.rt:222:9
 holds-requires : tie.Need-holds-requires
 holds-requires c κs = search needs
 
--- src/operations.rt:223:9
 returns : tie.Need-returns
 returns c = λ e. absurd (true≢false (sym e))
 
--- src/operations.rt:225:8
 run-at-requires : tie.Need-run-at-requires
 run-at-requires c κs = (omega (arith, c .before .holds .ensures .0 (not-false _ (c .if1 .left)), c .before .before .before .pre .0), c .before .before .before .pre .1)
 
--- src/operations.rt:226:9
 returns-2 : tie.Need-returns-2
 returns-2 c = λ e. absurd (true≢false (sym e))
 
--- src/operations.rt:228:5
 add-result : tie.Need-add-result
 add-result c = search needs
 
--- src/operations.rt:217:1
 returns-3 : tie.Need-returns-3
 returns-3 c = λ e. record {
   none = λ s. sym (c .before .before .run-at .ensures s) ∙ c .before .if2 .left;

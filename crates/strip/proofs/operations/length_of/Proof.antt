@@ -7,19 +7,15 @@ use Rattle.strip.proofs.operations.length_of.Tie as tie
 use Rattle.strip.proofs.operations.length_of.Reads as reads
 use Rattle.strip.proofs.operations.length_of.Lts as lts
 
--- src/operations.rt:43:16
 add-result : tie.Need-add-result
 add-result c = search needs
 
--- src/operations.rt:43:9
 returns : tie.Need-returns
 returns c = rw (not-true (c .before .args .more) (c .if1 .taken)) (refl, omega (arith, c .before .pre))
 
--- src/operations.rt:38:1
 returns-2 : tie.Need-returns-2
 returns-2 c = rw (not-false (c .before .before .args .more) (c .before .if1 .left), c .if2 .taken) (refl, omega arith)
 
--- src/operations.rt:38:1
 returns-3 : tie.Need-returns-3
 returns-3 c = rw (not-false (c .before .before .args .more) (c .before .if1 .left), c .if2 .left) (refl, omega arith)
 

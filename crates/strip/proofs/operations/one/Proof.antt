@@ -16,25 +16,20 @@ use Rattle.strip.proofs.operations.kept.Reads as kept-reads
 use Rattle.strip.proofs.operations.op.Reads as op-reads
 use Rattle.strip.proofs.operations.whole.Reads as whole-reads
 
--- src/operations.rt:138:9
 holds-requires : tie.Need-holds-requires
 holds-requires c κs = search needs
 
--- src/operations.rt:139:9
 returns : tie.Need-returns
 returns c = λ s held full no-run.
     let a = c .before .before .before .args in
     none-stepped (a .second) (a .w) (a .total) s (a .st) (c .before .before .before .pre .2) full (c .before .holds .ensures .1 (not-true _ (c .if1 .taken)))
 
--- src/operations.rt:141:9
 take-requires : tie.Need-take-requires
 take-requires c κs = (c .before .holds .ensures .0 (not-false _ (c .if1 .left)), c .before .before .before .pre .1)
 
--- src/operations.rt:144:25
 kept-requires : tie.Need-kept-requires
 kept-requires c κs = search needs
 
--- src/operations.rt:144:9
 returns-2 : tie.Need-returns-2
 returns-2 c = λ s held full no-run.
     let a = c .before .before .before .before .before .before .before .before .args in
@@ -42,11 +37,9 @@ returns-2 c = λ s held full no-run.
     rw (c .kept .ensures) (keep-stepped (a .second) (a .w) (a .total) s (a .st) (c .before .before .before .before .before .before .before .before .pre .2) held (taken .result .next)
     (subst (λ (v : ℕ). Hands 1 v (a .st .cur) (taken .result .next)) (c .before .if2 .taken) (taken .ensures)))
 
--- src/operations.rt:146:9
 whole-requires : tie.Need-whole-requires
 whole-requires c κs = search needs
 
--- src/operations.rt:147:9
 returns-3 : tie.Need-returns-3
 returns-3 c = λ s held full no-run.
     let a = c .before .before .before .before .before .before .before .before .before .args in
@@ -55,11 +48,9 @@ returns-3 c = λ s held full no-run.
     (c .before .whole .ensures .1 (not-true _ (c .if3 .taken)) s full
     (one-first (rest s (a .st .cur)) (rest s (taken .result .next)) (taken .result .bits) (taken .ensures .front s) (c .before .before .if2 .left)) (a .st .colour) (a .st .step))
 
--- src/operations.rt:149:14
 op-requires : tie.Need-op-requires
 op-requires c κs = (c .before .before .before .before .before .before .before .before .before .pre .0, c .before .whole .ensures .0 (not-false _ (c .if3 .left)), c .before .before .before .before .before .before .before .before .before .pre .1, omega (arith, c .before .before .before .before .before .before .before .before .before .pre .2, c .before .before .before .before .before .before .before .before .before .pre .3))
 
--- src/operations.rt:133:1
 returns-4 : tie.Need-returns-4
 returns-4 c = λ s held full no-run.
     let a = c .before .before .before .before .before .before .before .before .before .before .args in

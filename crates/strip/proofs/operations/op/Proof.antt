@@ -5,19 +5,15 @@ use Rattle.strip.proofs.operations.op.Lts as lts
 use Rattle.strip.proofs.operations.first_op.Reads as first-op-reads
 use Rattle.strip.proofs.operations.second_op.Reads as second-op-reads
 
--- src/operations.rt:101:9
 second-op-requires : tie.Need-second-op-requires
 second-op-requires c κs = rw (c .if1 .taken) at (c .before .pre)
 
--- src/operations.rt:103:9
 first-op-requires : tie.Need-first-op-requires
 first-op-requires c κs = rw (c .if1 .left) at (c .before .pre)
 
--- src/operations.rt:96:1
 returns : tie.Need-returns
 returns c = rw (c .before .if1 .taken) (c .second-op .ensures)
 
--- src/operations.rt:96:1
 returns-2 : tie.Need-returns-2
 returns-2 c = rw (c .before .if1 .left) (c .first-op .ensures)
 

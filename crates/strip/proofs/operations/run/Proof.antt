@@ -1,7 +1,6 @@
 use Rattle.strip.proofs.PlaceLaws.{run-cut-stepped, run-past-stepped, run-stepped}
 use Rattle.bits.proofs.CursorLaws.{hands-small}
 use native.Mathlib.Omega.{arith}
-use Prim.Native.Nat.{_<_, _^_, _≤_}
 use borrow.Author.Tests.{not-true, not-false}
 use borrow.Author.Needs.{needs}
 use Rattle.strip.proofs.operations.run.Statement.{statement}
@@ -12,36 +11,29 @@ use Rattle.bits.proofs.Cursor.holds.Reads as holds-reads
 use Rattle.bits.proofs.Cursor.take.Reads as take-reads
 use Rattle.strip.proofs.operations.run_pixels.Reads as run-pixels-reads
 
--- src/operations.rt:169:9
 holds-requires : tie.Need-holds-requires
 holds-requires c κs = search needs
 
--- src/operations.rt:170:9
 returns : tie.Need-returns
 returns c = λ w s held full is-run.
     let a = c .before .before .before .args in
     run-cut-stepped w (a .total) s (a .st) (c .before .before .before .pre .1) is-run full (c .before .holds .ensures .1 (not-true _ (c .if1 .taken)))
 
--- src/operations.rt:172:18
 take-requires : tie.Need-take-requires
 take-requires c κs = (omega (arith, c .before .holds .ensures .0 (not-false _ (c .if1 .left))), c .before .before .before .pre .0)
 
--- src/operations.rt:172:9
 take-requires-2 : tie.Need-take-requires-2
 take-requires-2 c κs =
     let held = c .before .before .holds .ensures .0 (not-false _ (c .before .if1 .left)) in
     let fewer = c .take .ensures .fewer in
     (omega (arith, held, fewer), omega (arith, fewer, c .before .before .before .before .pre .0))
 
--- src/operations.rt:173:21
 run-pixels-requires : tie.Need-run-pixels-requires
 run-pixels-requires c κs = hands-small (c .take2 .ensures)
 
--- src/operations.rt:173:14
 add-to : tie.Need-add-to
 add-to c = search needs
 
--- src/operations.rt:175:9
 returns-2 : tie.Need-returns-2
 returns-2 c = λ w s held full is-run.
     let a = c .before .before .before .before .before .before .before .before .args in
@@ -51,7 +43,6 @@ returns-2 c = λ w s held full is-run.
     run-past-stepped w (a .total) s (a .st) (c .before .before .before .before .before .before .before .before .pre .1) is-run (one .result .next) (two .result .next) _ _ (number .result)
     (one .ensures) (two .ensures) (number .ensures .0) (number .ensures .1) (c .if2 .taken)
 
--- src/operations.rt:164:1
 returns-3 : tie.Need-returns-3
 returns-3 c = λ w s held full is-run.
     let a = c .before .before .before .before .before .before .before .before .before .args in

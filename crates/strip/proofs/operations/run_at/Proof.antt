@@ -1,5 +1,5 @@
 use mathlib.Core.Path.{sym, ap}
-use mathlib.Core.Bool.{Bool, _&&_}
+use mathlib.Core.Bool.{_&&_}
 use Rattle.strip.specs.Place.{isRun}
 use borrow.Author.Needs.{needs}
 use Rattle.strip.proofs.operations.run_at.Statement.{statement}
@@ -8,11 +8,9 @@ use Rattle.strip.proofs.operations.run_at.Reads as reads
 use Rattle.strip.proofs.operations.run_at.Lts as lts
 use Rattle.bits.proofs.Cursor.take.Reads as take-reads
 
--- src/operations.rt:53:15
 take-requires : tie.Need-take-requires
 take-requires c κs = search needs
 
--- src/operations.rt:49:1
 returns : tie.Need-returns
 returns c = λ s. ap (λ p. c .before .before .args .second && isRun p) (sym (c .before .take .ensures .front s))
 

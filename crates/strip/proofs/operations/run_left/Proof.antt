@@ -12,22 +12,18 @@ use Rattle.strip.proofs.operations.run_left.Lts as lts
 use Rattle.bits.proofs.Cursor.holds.Reads as holds-reads
 use Rattle.strip.proofs.operations.run_at.Reads as run-at-reads
 
--- src/operations.rt:61:9
 holds-requires : tie.Need-holds-requires
 holds-requires c κs = search needs
 
--- src/operations.rt:62:9
 returns : tie.Need-returns
 returns c = λ s full.
     let cur = c .before .before .args .cur in
     let few = c .before .holds .ensures .1 (not-true _ (c .if1 .taken)) in
     sym (few-no-run (c .before .before .args .second) (rest s cur) (rw (all-in-hand s cur full (omega arith)) few))
 
--- src/operations.rt:64:5
 run-at-requires : tie.Need-run-at-requires
 run-at-requires c κs = (c .before .holds .ensures .0 (not-false _ (c .if1 .left)), c .before .before .pre)
 
--- src/operations.rt:57:1
 returns-2 : tie.Need-returns-2
 returns-2 c = λ s full. c .run-at .ensures s
 

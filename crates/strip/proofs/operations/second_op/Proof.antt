@@ -3,7 +3,7 @@ use Rattle.strip.specs.Strip.{minus}
 use Rattle.bits.specs.Reader.{Hands}
 use native.Mathlib.Omega.{arith}
 use Prim.Native.Nat.{ℕ, _+_}
-use mathlib.Core.Path.{refl, ap, _∙_, subst, sym}
+use mathlib.Core.Path.{refl, ap, _∙_, subst}
 use mathlib.Core.List.{[]}
 use borrow.Author.Needs.{needs}
 use Rattle.strip.proofs.operations.second_op.Statement.{statement}
@@ -17,49 +17,38 @@ use Rattle.strip.proofs.operations.length_of.Reads as length-of-reads
 use Rattle.strip.proofs.operations.less.Reads as less-reads
 use Rattle.strip.proofs.operations.more.Reads as more-reads
 
--- src/operations.rt:82:9
 take-requires : tie.Need-take-requires
 take-requires c κs = (c .before .pre .1 .two, c .before .pre .2)
 
--- src/operations.rt:85:40
 look-requires : tie.Need-look-requires
 look-requires c κs = search needs
 
--- src/operations.rt:85:24
 more-requires : tie.Need-more-requires
 more-requires c κs = search needs
 
--- src/operations.rt:85:9
 less-requires : tie.Need-less-requires
 less-requires c κs = search needs
 
--- src/operations.rt:86:25
 length-of-requires : tie.Need-length-of-requires
 length-of-requires c κs = search needs
 
--- src/operations.rt:86:16
 take-requires-2 : tie.Need-take-requires-2
 take-requires-2 c κs =
     let head = c .before .before .before .before .before .before .take in
     (rw (c .length-of .ensures .0) (c .before .before .before .before .before .before .before .before .pre .1 .all [] (head .result .bits) _ (head .ensures .front [])), c .before .before .before .before .before .before .before .before .pre .2)
 
--- src/operations.rt:88:12
 add-t14 : tie.Need-add-t14
 add-t14 c = search needs
 
--- src/operations.rt:89:41
 look-requires-2 : tie.Need-look-requires-2
 look-requires-2 c κs = search needs
 
--- src/operations.rt:89:17
 either-requires : tie.Need-either-requires
 either-requires c κs = search needs
 
--- src/operations.rt:90:15
 either-requires-2 : tie.Need-either-requires-2
 either-requires-2 c κs = search needs
 
--- src/operations.rt:77:1
 returns : tie.Need-returns
 returns c =
     let a = c .before .before .before .before .before .before .before .before .before .before .before .before .before .before .args in

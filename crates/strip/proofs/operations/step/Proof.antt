@@ -12,15 +12,12 @@ use Rattle.strip.proofs.operations.one.Reads as one-reads
 use Rattle.strip.proofs.operations.run.Reads as run-reads
 use Rattle.strip.proofs.operations.run_left.Reads as run-left-reads
 
--- src/operations.rt:203:8
 run-left-requires : tie.Need-run-left-requires
 run-left-requires c κs = search needs
 
--- src/operations.rt:204:9
 run-requires : tie.Need-run-requires
 run-requires c κs = search needs
 
--- src/operations.rt:204:9
 returns : tie.Need-returns
 returns c = λ s held full.
     let a = c .before .before .before .before .args in
@@ -29,11 +26,9 @@ returns c = λ s held full.
     subst (λ (q : Bool). Stepped q (a .w) (a .total) s (a .st) (c .run .result)) (sym (first-of (a .second) ahead is-run))
     (c .run .ensures (a .w) s held full (second-of (a .second) ahead is-run))
 
--- src/operations.rt:206:5
 one-requires : tie.Need-one-requires
 one-requires c κs = search needs
 
--- src/operations.rt:198:1
 returns-2 : tie.Need-returns-2
 returns-2 c = λ s held full. c .one .ensures s held full (sym (c .before .before .run-left .ensures s full) ∙ c .before .if1 .left)
 

@@ -6,7 +6,7 @@ use Rattle.bits.specs.Bits.{rest}
 use lib.ListN.{length}
 use native.Mathlib.Omega.{arith}
 use Prim.Native.Nat.{ℕ, _≤_, _<_}
-use mathlib.Core.Path.{sym, _∙_, ap, subst}
+use mathlib.Core.Path.{sym, _∙_, subst}
 use mathlib.Core.Bool.{true≢false}
 use borrow.Author.Tests.{not-true, not-false}
 use borrow.Author.Needs.{needs}
@@ -18,11 +18,9 @@ use Rattle.bits.proofs.Cursor.holds.Reads as holds-reads
 use Rattle.bits.proofs.Cursor.take.Reads as take-reads
 use Rattle.strip.proofs.operations.length_of.Reads as length-of-reads
 
--- src/operations.rt:125:9
 holds-requires : tie.Need-holds-requires
 holds-requires c κs = search needs
 
--- src/operations.rt:126:9
 returns : tie.Need-returns
 returns c = (
   (λ e. absurd (true≢false (sym e))),
@@ -32,19 +30,15 @@ returns c = (
       op-one (c .before .before .args .second) (c .before .before .args .w) colour step (rest s cur) one (rw (all-in-hand s cur full (omega arith)) few),
 )
 
--- src/operations.rt:128:16
 take-requires : tie.Need-take-requires
 take-requires c κs = (c .before .holds .ensures .0 (not-false _ (c .if1 .left)), c .before .before .pre .1)
 
--- src/operations.rt:129:15
 length-of-requires : tie.Need-length-of-requires
 length-of-requires c κs = search needs
 
--- src/operations.rt:129:5
 holds-requires-2 : tie.Need-holds-requires-2
 holds-requires-2 c κs = search needs
 
--- src/operations.rt:121:1
 returns-2 : tie.Need-returns-2
 returns-2 c =
     let a = c .before .before .before .before .before .before .args in
