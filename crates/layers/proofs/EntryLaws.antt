@@ -2,7 +2,7 @@
 use mathlib.Core.Path.{_≡_, refl, sym, ap, ap₂, _∙_}
 use mathlib.Core.Bool.{Bool, true, false, not, cond, _&&_}
 use mathlib.Core.List.{List}
-use Prim.Native.Nat.{ℕ, _+_, _*_, _/_, _%_, _≤_, _<_}
+use Prim.Native.Nat.{ℕ, _+_, _-_, _*_, _/_, _%_, _≤_, _<_}
 use native.Mathlib.Omega.{arith}
 use borrow.Author.Tests.{leb-true, eqb-true, ltb-true}
 use lib.Dec.{leb, ltb, eqb}
@@ -25,13 +25,14 @@ use Rattle.image.specs.Pixel.{smapOf, imageStrip, imageColour, imageClear, imag
 use Rattle.image.proofs.ImageLaws.{state-at, object-right, state-bound}
 use Rattle.image.proofs.FaultLaws.{fault-at, image-smap-passes, image-plane-passes, image-has-smap}
 use Rattle.image.proofs.PixelLaws.{image-strip-at}
+use Rattle.image.specs.Gathered.{Gathered}
 use Rattle.scene.specs.Painting.{every, opaque, covers}
 use Rattle.scene.specs.Steps.{allowed}
 use Rattle.scene.specs.declared.Entry.{Entry}
 use Rattle.layers.specs.declared.Source.{Source}
 use Rattle.layers.specs.Decoded.{decoded}
 use Rattle.layers.specs.Layer.{noneClear}
-use Rattle.layers.specs.Source.{Readable, PlanePasses, stripIn, maskIn, pictureOver, Stands}
+use Rattle.layers.specs.Source.{Readable, PlanePasses, stripIn, maskIn, pictureOver, pictureOpaque, Stands}
 use Rattle.layers.specs.Ready.{Paintable}
 use Rattle.layers.proofs.EveryLaws.{every-rows}
 
@@ -54,6 +55,13 @@ pub record EntryFits (s : List ℕ) (r : Room) (e : Entry) : Type 0 where
   pub whole : imageWidth s (e .object) % 8 ≡ 0
   pub wide : e .x + imageWidth s (e .object) ≤ 8 * strips r
   pub high : e .y + imageHeight s (e .object) ≤ r .height
+
+-- what is read for an entry that covers strip k, and where it stands
+pub record Covering (s : List ℕ) (r : Room) (e : Entry) (k : ℕ) (m : Source) : Type 0 where
+  pub readable : Readable s m
+  pub strip : k - e .x / 8 < m .strips
+  pub planes : (q : ℕ) → 1 ≤ q → q ≤ r .planes → PlanePasses s m q
+  pub low : e .y + m .height ≤ r .height
 
 module _ (s : List ℕ) (r : Room) (e : Entry) (p : Paintable s r e) where
   abbrev o : ℕ
@@ -94,6 +102,12 @@ module _ (s : List ℕ) (r : Room) (e : Entry) (p : Paintable s r e) where
     ltb-true k (e .x / 8 + imageWidth s o / 8) (and-right (leb (e .x / 8) k) (ltb k (e .x / 8 + imageWidth s o / 8)) h),
   )
 
+  -- what the table of the room's objects says of the strips that it covers
+  pub entry-covers : (t : List ℕ) (k : ℕ) (b : Bool) → Gathered s t
+      → ((s' : List ℕ) (r' : Room) → Gathered s' t → 1 ≤ e .object → e .object ≤ objectCount s' → b ≡ covers (decoded s' r') e k)
+      → covers (decoded s r) e k ≡ b
+  entry-covers t k b g said = sym (said s r g (entry-fits .first) (entry-fits .last))
+
   -- where its image is read from
   module _ (m : Source) (at : Stands s o st m) where
     abbrev n : ℕ
@@ -108,7 +122,7 @@ module _ (s : List ℕ) (r : Room) (e : Entry) (p : Paintable s r e) where
     smap-here : At (m .smap) (m .«smap_end») ≡ findTag tag-SMAP s (at .block + 8) (m .«payload_end»)
     smap-here = rw (at .payload-at) at (at .smap-at)
 
-    pub source-readable : Sound s r → Readable s m
+    source-readable : Sound s r → Readable s m
     source-readable sound =
         let fit = entry-fits in
         let strips-are = at .strips-are in
@@ -124,10 +138,21 @@ module _ (s : List ℕ) (r : Room) (e : Entry) (p : Paintable s r e) where
           smap-passes = rw (at .strips-are, at .height-is) (image-smap-passes (r .planes) n h s (at .block + 8) (m .«payload_end») tested (m .smap) (m .«smap_end») smap-here);
         }
 
-    pub source-plane : (k : ℕ) → 1 ≤ k → k ≤ r .planes → PlanePasses s m k
+    source-plane : (k : ℕ) → 1 ≤ k → k ≤ r .planes → PlanePasses s m k
     source-plane k one le =
         rw (at .strips-are, at .height-is, at .payload-at)
         (image-plane-passes (r .planes) n h s (at .block + 8) (m .«payload_end») tested (m .smap) (m .«smap_end») smap-here k one le)
+
+    pub covering : Sound s r → (k : ℕ) → covers (decoded s r) e k ≡ true → Covering s r e k m
+    covering sound k on =
+        let fit = entry-fits in
+        let here = covers-in k on in
+        record {
+          readable = source-readable sound;
+          strip = omega (arith, here, at .strips-are);
+          planes = source-plane;
+          low = omega (arith, at .height-is, fit .high);
+        }
 
     -- its strips and planes
     same-strip : (j : ℕ) → imageStrip s o st j ≡ stripIn s m j
@@ -147,7 +172,7 @@ module _ (s : List ℕ) (r : Room) (e : Entry) (p : Paintable s r e) where
         go true = refl
         go false = refl
 
-    pub same-opaque : (j : ℕ) → noneClear (clearCode (stripIn s m j)) (pixelsOf (stripIn s m j)) (8 * m .height) ≡ opaque (decoded s r) o st j
+    pub same-opaque : (j : ℕ) → pictureOpaque (stripIn s m j) (8 * m .height) ≡ opaque (decoded s r) o st j
     unfolding noneClear opaque decoded imageClear imageColour
     same-opaque j =
         every-rows (m .height) (λ i. not (clearCode (stripIn s m j) && eqb (getD (pixelsOf (stripIn s m j)) i 0) 255))

@@ -2,7 +2,7 @@
 use mathlib.Core.Path.{_≡_, refl, sym, ap, _∙_}
 use mathlib.Core.Bool.{Bool, true, false, _&&_}
 use mathlib.Core.List.{List, [], _∷_, _++_}
-use Prim.Native.Nat.{ℕ, _+_, _<_}
+use Prim.Native.Nat.{ℕ, _+_, _≤_, _<_}
 use native.Mathlib.Numerals.{add-one}
 use native.Mathlib.Omega.{arith}
 use borrow.Author.Tests.{le-ltb, eqb-true}
@@ -13,7 +13,7 @@ use Rattle.grid.proofs.Upd.{upd-ext, upd-then}
 use Rattle.scene.specs.Painting.{Room, Layout, covers, layered, freshByte, newByte, rebuiltBytes}
 use Rattle.scene.specs.declared.Entry.{Entry}
 use Rattle.scene.proofs.Strips.{Local}
-use Rattle.scene.proofs.Loops.{layered-more, rebuilt-none, rebuilt-alike, rebuilt-next}
+use Rattle.scene.proofs.Loops.{layered-more, rebuilt-none, rebuilt-alike, rebuilt-next, rebuilt-last}
 use Rattle.layers.specs.Decoded.{entryAt, entriesOf}
 use Rattle.layers.specs.Layer.{stripByte, overByte}
 use Rattle.layers.proofs.ByteLaws.{each-upd, strip-ext, strip-then, strip-same}
@@ -97,6 +97,11 @@ module _ (lay : Layout) (es : List Entry) (t : ℕ → Bool) (l : List ℕ) wher
         same : (s : ℕ) (b : Bool) → eqb s k ≡ b → (b && t s) ≡ false
         same s true e = ap t (eqb-true s k e) ∙ off
         same s false e = refl
+
+  -- after the last of n strips
+  pub touch-all : (n k : ℕ) → n ≤ k → ((i : ℕ) → i < lay .size → lay .strip i < n) → (px : List ℕ)
+      → px ≡ rebuiltBytes lay es (λ s. ltb s k && t s) l → px ≡ rebuiltBytes lay es t l
+  touch-all n k all in-room px so = so ∙ rebuilt-last lay es t l k (λ i lt. omega (arith, in-room i lt))
 
 -- ---- the entries of a shown list in numbers
 entries-next : (shown : List ℕ) (i : ℕ) → entriesOf shown (i + 1) ≡ entriesOf shown i ++ entryAt shown i ∷ []

@@ -20,7 +20,7 @@ use Rattle.room.specs.declared.Room.{Room}
 use Rattle.image.specs.Pixel.{imageClear, imageColour}
 use Rattle.scene.specs.Painting.{covers, reaches, opaque, overPixel, overMask, pixelLayout, maskLayout, rebuiltBytes}
 use Rattle.scene.specs.declared.Entry.{Entry}
-use Rattle.scene.proofs.Loops.{rebuilt-last, pixel-strips, mask-strips}
+use Rattle.scene.proofs.Loops.{pixel-strips, mask-strips}
 use Rattle.layers.specs.declared.Source.{Source}
 use Rattle.layers.specs.Decoded.{decoded}
 use Rattle.layers.specs.Layer.{stripByte, overByte}
@@ -136,24 +136,12 @@ module _ (s : List ℕ) (r : Room) (sound : Sound s r) (k : ℕ) (within-room : 
       over-masks l px so =
           over-one (maskLayout (decoded s r)) k l e (rowsByte s m j n (r .height) k (e .y) replace) px (λ i o lt is. mask-cell i o is) so
 
--- ---- after the last strip
-module _ (s : List ℕ) (r : Room) (es : List Entry) (t : ℕ → Bool) (l px : List ℕ) (k : ℕ) (all : strips r ≤ k) where
-  pub touched-pixels : px ≡ rebuiltBytes (pixelLayout (decoded s r)) es (λ q. ltb q k && t q) l → px ≡ rebuiltBytes (pixelLayout (decoded s r)) es t l
+-- ---- both surfaces have the room's strips
+module _ (s : List ℕ) (r : Room) (i : ℕ) where
+  pub in-pixels : i < pixelLayout (decoded s r) .size → pixelLayout (decoded s r) .strip i < strips r
   unfolding decoded
-  touched-pixels so = so ∙ rebuilt-last (pixelLayout (decoded s r)) es t l k bound
-    where
-      bound : (i : ℕ) → i < pixelLayout (decoded s r) .size → pixelLayout (decoded s r) .strip i < k
-      bound i lt = last (pixel-strips (decoded s r) i lt)
-        where
-          last : {q : ℕ} → q < decoded s r .strips → q < k
-          last h = omega arith
+  in-pixels = pixel-strips (decoded s r) i
 
-  pub touched-masks : px ≡ rebuiltBytes (maskLayout (decoded s r)) es (λ q. ltb q k && t q) l → px ≡ rebuiltBytes (maskLayout (decoded s r)) es t l
+  pub in-masks : i < maskLayout (decoded s r) .size → maskLayout (decoded s r) .strip i < strips r
   unfolding decoded
-  touched-masks so = so ∙ rebuilt-last (maskLayout (decoded s r)) es t l k bound
-    where
-      bound : (i : ℕ) → i < maskLayout (decoded s r) .size → maskLayout (decoded s r) .strip i < k
-      bound i lt = last (mask-strips (decoded s r) i lt)
-        where
-          last : {q : ℕ} → q < decoded s r .strips → q < k
-          last h = omega arith
+  in-masks = mask-strips (decoded s r) i

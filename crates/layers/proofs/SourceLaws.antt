@@ -35,7 +35,7 @@ use Rattle.scene.specs.declared.Entry.{Entry}
 use Rattle.layers.specs.declared.Source.{Source}
 use Rattle.layers.specs.Decoded.{decoded}
 use Rattle.layers.specs.Layer.{noneClear}
-use Rattle.layers.specs.Source.{Readable, PlanePasses, stripIn, maskIn, pictureOver}
+use Rattle.layers.specs.Source.{Readable, PlanePasses, stripIn, maskIn, pictureOver, pictureOpaque}
 use Rattle.layers.proofs.EveryLaws.{every-ext}
 
 clear-is : (p : Picture) (clear : Bool) → answer.Drawn clear ≡ answerOf p → clear ≡ clearCode p
@@ -66,7 +66,7 @@ module _ (s : List ℕ) (m : Source) (j : ℕ) (ok : Readable s m) (fits : j < m
       unfolding pictureOver
       read-over i o lt = ap₂ (λ (t : Bool) (v : ℕ). over t v o) code (value i lt)
 
-      pub read-none-clear : noneClear clear e (8 * m .height) ≡ noneClear (clearCode (stripIn s m j)) (pixelsOf (stripIn s m j)) (8 * m .height)
+      pub read-none-clear : noneClear clear e (8 * m .height) ≡ pictureOpaque (stripIn s m j) (8 * m .height)
       unfolding noneClear
       read-none-clear = every-ext _ _ (8 * m .height) (λ i lt. ap₂ (λ (t : Bool) (v : ℕ). not (t && eqb v 255)) code (value i lt))
 

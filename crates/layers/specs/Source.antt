@@ -20,7 +20,7 @@ use Rattle.image.specs.Image.{imageHeight, stateBlock}
 use Rattle.image.specs.Fault.{planeIn, planeTest}
 use Rattle.image.specs.Pixel.{imageStrips, clearCode}
 use Rattle.layers.specs.declared.Source.{Source}
-use Rattle.layers.specs.Layer.{stripByte}
+use Rattle.layers.specs.Layer.{stripByte, noneClear}
 
 -- its SMAP lies in the room and passes its test
 pub record Readable (s : List ℕ) (m : Source) : Type 0 where
@@ -46,6 +46,10 @@ maskIn s m p j y = foundMask (m .strips) (m .height) s (planeIn s (m .payload) (
 -- pixel i of a strip, counted by rows, over the colour `old`
 unfoldable pub pictureOver : Picture → ℕ → ℕ → ℕ
 pictureOver p i old = over (clearCode p) (getD (pixelsOf p) i 0) old
+
+-- of the first n pixels of a strip, none is transparent
+abbrev pub pictureOpaque : Picture → ℕ → Bool
+pictureOpaque p n = noneClear (clearCode p) (pixelsOf p) n
 
 -- strip j of every plane over strip k of the masks of n strips of h rows, from row y on
 unfoldable pub rowsByte : List ℕ → Source → (j n h k y : ℕ) → Bool → ℕ → ℕ → ℕ

@@ -38,13 +38,14 @@ pub fn entry_at(shown: &[u32], i: usize) -> Entry
     }
 }
 
-// Whether the box of an entry of object o, whose left edge is at x, holds strip k of the room.
-pub fn covers_strip(table: &[u32], o: usize, x: usize, k: usize) -> bool
-    requires { ⌜ (o ≤ 128) × (1032 ≤ length (now table)) ⌝ }
-    ensures { λ b. ⌜ ((s : List ℕ) (r : room.Room) (st y : ℕ) → Gathered s (now (table .entry)) → 1 ≤ o → o ≤ objectCount s → b ≡ covers (decoded s r) (record { object = o; state = st; x = x; y = y }) k) ⌝ }
+// Whether the box of an entry holds strip k of the room.
+pub fn covers_strip(table: &[u32], e: Entry, k: usize) -> bool
+    requires { ⌜ (e .object ≤ 128) × (1032 ≤ length (now table)) ⌝ }
+    ensures { λ b. ⌜ ((s : List ℕ) (r : room.Room) → Gathered s (now (table .entry)) → 1 ≤ e .object → e .object ≤ objectCount s
+        → b ≡ covers (decoded s r) e k) ⌝ }
 {
-    let left = x / 8;
-    let strips = table[8 * o + 3] as usize / 8;
+    let left = e.x as usize / 8;
+    let strips = table[8 * e.object as usize + 3] as usize / 8;
     (left <= k) & (k < left + strips)
 }
 

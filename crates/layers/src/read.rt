@@ -1,15 +1,12 @@
 // What is read of one strip of a picture.
 ghost use mathlib.Core.Path.{_≡_};
-ghost use Prim.Native.Nat.{ℕ, _*_, _≤_, _<_};
+ghost use Prim.Native.Nat.{ℕ, _≤_, _<_};
 ghost use lib.ListN.{length, getD};
-ghost use Rattle.table.specs.Body.{pixelsOf};
-ghost use Rattle.image.specs.Pixel.{clearCode};
 ghost use Rattle.layers.specs.Layer.{noneClear};
-ghost use Rattle.layers.specs.Source.{Readable, PlanePasses, stripIn, maskIn};
+ghost use Rattle.layers.specs.Source.{Readable, PlanePasses, maskIn};
 use crate::Source;
 use block::Found;
 use block::find_tag;
-use strip::Answer;
 
 const ZP00: usize = 0x5A50_3030;
 
@@ -26,19 +23,6 @@ pub fn none_clear(values: &[u8], n: usize, clear: bool) -> bool
         i += 1;
     }
     true
-}
-
-// Whether strip j has no transparent pixel.
-pub fn strip_opaque(room: &[u8], m: Source, j: usize) -> bool
-    requires { ⌜ Readable (now room) m × (j < m .strips) ⌝ }
-    ensures { λ r. ⌜ r ≡ noneClear (clearCode (stripIn (now (room .entry)) m j)) (pixelsOf (stripIn (now (room .entry)) m j)) (8 * m .height) ⌝ }
-{
-    let mut scratch = [0u8; 1600];
-    let height = m.height;
-    match table::read_strip(room, m.strips, height, m.smap, m.smap_end, j, &mut scratch) {
-        Answer::Drawn { clear } => none_clear(&scratch, 8 * height, clear),
-        Answer::Refused(_) => true,
-    }
 }
 
 // The rows of strip j of plane p; zeros where the plane is missing.

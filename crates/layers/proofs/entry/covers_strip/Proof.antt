@@ -6,6 +6,12 @@ use borrow.Author.Needs.{needs}
 use Rattle.layers.proofs.entry.covers_strip.Statement.{statement}
 use Rattle.layers.proofs.entry.covers_strip.Tie as tie
 
+cast-left : tie.Need-cast-left
+cast-left c = search needs
+
+cast-strips : tie.Need-cast-strips
+cast-strips c = search needs
+
 mul-strips : tie.Need-mul-strips
 mul-strips c = search needs
 
@@ -18,23 +24,27 @@ mul-strips-2 c = search needs
 shared-slice-read-strips : tie.Need-shared-slice-read-strips
 shared-slice-read-strips c = search needs
 
-cast-strips : tie.Need-cast-strips
-cast-strips c = omega (arith, c .shared-slice-known .given (8 * c .before .args .o + 3))
+cast-strips-2 : tie.Need-cast-strips-2
+cast-strips-2 c = omega (arith, c .shared-slice-known .given (8 * c .before .before .before .args .e .object + 3))
 
 add-result : tie.Need-add-result
-add-result c = omega (arith, c .shared-slice-known .given (8 * c .before .args .o + 3))
+add-result c =
+    let known = c .before .before .struct-known in
+    omega (arith, c .shared-slice-known .given (8 * c .before .before .before .args .e .object + 3), known .given)
 
 returns : tie.Need-returns
-returns c = λ s r st y g one le. covers-by s r _ (record { object = c .before .args .o; state = st; x = c .before .args .x; y = y }) _ g one le
+returns c = λ s r g one le. covers-by s r _ (c .before .before .before .args .e) _ g one le
 
 pub covers-strip-spec : {M : Type 1} → statement M
 covers-strip-spec =
     tie.close
     (tie.spec
+    cast-left
+    cast-strips
     mul-strips
     add-strips
     mul-strips-2
     shared-slice-read-strips
-    cast-strips
+    cast-strips-2
     add-result
     returns)

@@ -1,11 +1,11 @@
--- `repaint::masks::put_plane` meets its contract. Assumes nothing.
+-- `repaint::picture::put_plane` meets its contract. Assumes nothing.
 use Rattle.paint.proofs.BoxLaws.{box-same}
 use Rattle.grid.specs.Mask.{merged}
 use Prim.Native.Nat.{ℕ}
 use mathlib.Core.Path.{ap}
 use borrow.Author.Needs.{needs}
-use Rattle.repaint.proofs.masks.put_plane.Statement.{statement}
-use Rattle.repaint.proofs.masks.put_plane.Tie as tie
+use Rattle.repaint.proofs.picture.put_plane.Statement.{statement}
+use Rattle.repaint.proofs.picture.put_plane.Tie as tie
 
 slice-aggregate-plane-rows : tie.Need-slice-aggregate-plane-rows
 slice-aggregate-plane-rows c = search needs
@@ -24,9 +24,9 @@ same-length c = search needs
 
 returns : tie.Need-returns
 returns c =
-    box-same _ _ _ _ _ _ _ _ _
-    (λ x q o lx lq. ap (λ (v : ℕ). merged (c .before .before .before .before .before .before .before .before .before .before .before .args .replace) v o) (c .before .before .before .before .before .before .before .plane-rows .ensures q lq))
-    (c .before .before .put-rows .ensures)
+    let start = c .before .before .before .before .before .before .before .before .before .before .before in
+    let read = c .before .before .before .before .before .before .before .plane-rows .ensures in
+    box-same _ _ _ _ _ _ _ _ _ (λ x q o lx lq. ap (λ (v : ℕ). merged (start .args .replace) v o) (read q lq)) (c .before .before .put-rows .ensures)
 
 pub put-plane-spec : {M : Type 1} → statement M
 put-plane-spec =
