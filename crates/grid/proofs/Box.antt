@@ -78,12 +78,14 @@ module _ (w x0 y c : ℕ) (g : ℕ → ℕ → ℕ) (l : List ℕ) (fits : x0 + 
       let id : i / w ≡ y = ap (λ (k : ℕ). k / w) e ∙ jd in
       let im : i % w ≡ x0 + c = ap (λ (k : ℕ). k % w) e ∙ jm in
       let old : getD (upd (rowed w x0 y c g) l) j 0 ≡ getD l i 0 =
-      getD-upd (rowed w x0 y c g) l j (omega arith) ∙ rowed-out w x0 y c g j (getD l j 0) (within-hi x0 c (j % w) (omega arith)) ∙ ap (λ (k : ℕ). getD l k 0) (sym e) in
+      getD-upd (rowed w x0 y c g) l j (omega arith) ∙ rowed-out w x0 y c g j (getD l j 0) (within-hi x0 c (j % w) (omega arith))
+      ∙ ap (λ (k : ℕ). getD l k 0) (sym e) in
       rw (eq-eqb i j e)
       (ap (g c) old ∙ ap (λ (k : ℕ). g k (getD l i 0)) (omega arith) ∙ sym (rowed-in w x0 y (c + 1) g i (getD l i 0) id (omega arith) (omega arith))))
       (λ e. rw (ne-eqb i j e) (row-same w x0 y c g i (getD l i 0) (λ a b. e (sym (rw (a, b) at (div-add-mod' i w))))))
 
-  pub cell-more : set (upd (rowed w x0 y c g) l) (y * w + (x0 + c)) (g c (getD (upd (rowed w x0 y c g) l) (y * w + (x0 + c)) 0)) ≡ upd (rowed w x0 y (c + 1) g) l
+  pub cell-more : set (upd (rowed w x0 y c g) l) (y * w + (x0 + c)) (g c (getD (upd (rowed w x0 y c g) l) (y * w + (x0 + c)) 0))
+      ≡ upd (rowed w x0 y (c + 1) g) l
   cell-more = set-upd (rowed w x0 y c g) (rowed w x0 y (c + 1) g) l (y * w + (x0 + c)) _ cell-point
 
 pub row-none : (w x0 y : ℕ) (g : ℕ → ℕ → ℕ) (l : List ℕ) → l ≡ upd (rowed w x0 y 0 g) l
@@ -124,7 +126,8 @@ module _ (w x0 y0 bw r : ℕ) (f : ℕ → ℕ → ℕ → ℕ) (i o : ℕ) wher
       ∙ within-cases y0 (r + 1) (i / w)
       (λ a b. sym (boxed-off w x0 y0 bw r f i o m) ∙ boxed-in w x0 y0 bw r f i o a (omega arith) p q ∙ sym (boxed-in w x0 y0 bw (r + 1) f i o a b p q))
       (λ m2. sym (boxed-off w x0 y0 bw (r + 1) f i o m2)))))
-      (λ m. rowed-out w x0 (y0 + r) bw (λ c u. f c r u) i (boxed w x0 y0 bw r f i o) m ∙ boxed-out w x0 y0 bw r f i o m ∙ sym (boxed-out w x0 y0 bw (r + 1) f i o m))
+      (λ m. rowed-out w x0 (y0 + r) bw (λ c u. f c r u) i (boxed w x0 y0 bw r f i o) m ∙ boxed-out w x0 y0 bw r f i o m
+      ∙ sym (boxed-out w x0 y0 bw (r + 1) f i o m))
 
 -- the next row of a box, after the rows before it
 pub box-more : (w x0 y0 bw r : ℕ) (f : ℕ → ℕ → ℕ → ℕ) (l px row : List ℕ)
@@ -134,7 +137,8 @@ pub box-more : (w x0 y0 bw r : ℕ) (f : ℕ → ℕ → ℕ → ℕ) (l px row 
 box-more w x0 y0 bw r f l px row e h =
     h ∙ ap (upd (rowed w x0 (y0 + r) bw (λ c p. f c r p))) e
     ∙ upd-upd (rowed w x0 (y0 + r) bw (λ c p. f c r p)) (boxed w x0 y0 bw r f) l
-    ∙ upd-ext (λ i o. rowed w x0 (y0 + r) bw (λ c p. f c r p) i (boxed w x0 y0 bw r f i o)) (boxed w x0 y0 bw (r + 1) f) l (λ i k. box-point w x0 y0 bw r f i (getD l i 0))
+    ∙ upd-ext (λ i o. rowed w x0 (y0 + r) bw (λ c p. f c r p) i (boxed w x0 y0 bw r f i o)) (boxed w x0 y0 bw (r + 1) f) l
+    (λ i k. box-point w x0 y0 bw r f i (getD l i 0))
 
 pub box-none : (w x0 y0 bw : ℕ) (f : ℕ → ℕ → ℕ → ℕ) (l : List ℕ) → l ≡ upd (boxed w x0 y0 bw 0 f) l
 box-none w x0 y0 bw f l = sym (upd-id (boxed w x0 y0 bw 0 f) l (λ i o. within-cases y0 0 (i / w) (λ p q. absurd (omega arith)) (boxed-off w x0 y0 bw 0 f i o)))
@@ -173,7 +177,8 @@ pub box-beside : (w x0 x1 y0 n m h : ℕ) (f g : ℕ → ℕ → ℕ → ℕ) (l
     → qx ≡ upd (boxed w x0 y0 (n + m) h f) l
 box-beside w x0 x1 y0 n m h f g l px qx b agree e q =
     q ∙ ap (upd (boxed w x1 y0 m h g)) e ∙ upd-upd (boxed w x1 y0 m h g) (boxed w x0 y0 n h f) l
-    ∙ upd-ext (λ i o. boxed w x1 y0 m h g i (boxed w x0 y0 n h f i o)) (boxed w x0 y0 (n + m) h f) l (λ i k. beside-point w x0 x1 y0 n m h f g b agree i (getD l i 0))
+    ∙ upd-ext (λ i o. boxed w x1 y0 m h g i (boxed w x0 y0 n h f i o)) (boxed w x0 y0 (n + m) h f) l
+    (λ i k. beside-point w x0 x1 y0 n m h f g b agree i (getD l i 0))
 
 pub box-thin : (w x0 y0 bh : ℕ) (f : ℕ → ℕ → ℕ → ℕ) (l : List ℕ) → l ≡ upd (boxed w x0 y0 0 bh f) l
 box-thin w x0 y0 bh f l = sym (upd-id (boxed w x0 y0 0 bh f) l (λ i o. within-cases x0 0 (i % w) (λ p q. absurd (omega arith)) (boxed-out w x0 y0 0 bh f i o)))
@@ -187,7 +192,8 @@ pub column-write : (w x0 y0 r : ℕ) (f : ℕ → ℕ → ℕ → ℕ) (l px : L
     → v ≡ f 0 r (getD px j 0)
     → set px j v ≡ upd (boxed w x0 y0 1 (r + 1) f) l
 column-write w x0 y0 r f l px fits so j v e h =
-    box-more w x0 y0 1 r f l px _ so (row-write w x0 (y0 + r) 0 (λ c p. f c r p) px px (omega arith) (row-none w x0 (y0 + r) (λ c p. f c r p) px) j v (omega arith) h)
+    box-more w x0 y0 1 r f l px _ so
+    (row-write w x0 (y0 + r) 0 (λ c p. f c r p) px px (omega arith) (row-none w x0 (y0 + r) (λ c p. f c r p) px) j v (omega arith) h)
 
 -- a row of a box ends within the buffer
 pub row-room : (n w h x0 y0 bw bh r : ℕ) → Inside n w h x0 y0 bw bh → r < bh → (y0 + r) * w + (x0 + bw) ≤ n
@@ -233,7 +239,8 @@ box-below w x0 y0 y1 bw n m f g l px qx b agree e q =
     upd-then _ _ _ _ _ _ (λ i o. below-point w x0 y0 y1 bw n m f g b agree i o) e q
 
 -- two boxes whose cells agree
-pub boxed-ext : (w x0 y0 bw bh : ℕ) (f g : ℕ → ℕ → ℕ → ℕ) → ((c r o : ℕ) → c < bw → r < bh → f c r o ≡ g c r o) → (i o : ℕ) → boxed w x0 y0 bw bh f i o ≡ boxed w x0 y0 bw bh g i o
+pub boxed-ext : (w x0 y0 bw bh : ℕ) (f g : ℕ → ℕ → ℕ → ℕ) → ((c r o : ℕ) → c < bw → r < bh → f c r o ≡ g c r o)
+    → (i o : ℕ) → boxed w x0 y0 bw bh f i o ≡ boxed w x0 y0 bw bh g i o
 boxed-ext w x0 y0 bw bh f g same i o =
     within-cases y0 bh (i / w)
     (λ a b. within-cases x0 bw (i % w)

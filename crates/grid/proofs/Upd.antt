@@ -46,7 +46,8 @@ upd-set (x ∷ xs) (suc j) v =
     ap₂ _∷_ (rw eqb·zero-suc) (upd-set xs j v ∙ upd-ext (λ i o. pick (eqb i j) v o) (λ i o. pick (eqb (suc i) (suc j)) v o) xs (λ i k. rw eqb·suc-suc))
 
 -- a store after a run
-pub set-upd : (f g : ℕ → ℕ → ℕ) (l : List ℕ) (j v : ℕ) → ((i : ℕ) → i < length l → pick (eqb i j) v (f i (getD l i 0)) ≡ g i (getD l i 0)) → set (upd f l) j v ≡ upd g l
+pub set-upd : (f g : ℕ → ℕ → ℕ) (l : List ℕ) (j v : ℕ) → ((i : ℕ) → i < length l → pick (eqb i j) v (f i (getD l i 0)) ≡ g i (getD l i 0))
+    → set (upd f l) j v ≡ upd g l
 set-upd f g l j v h = upd-set (upd f l) j v ∙ upd-upd (λ i o. pick (eqb i j) v o) f l ∙ upd-ext (λ i o. pick (eqb i j) v (f i o)) g l h
 
 -- one run after another is one run

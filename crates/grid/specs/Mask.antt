@@ -7,13 +7,13 @@ use lib.Bits.{bitOr}
 use lib.ListN.{getD}
 use Rattle.grid.specs.Grid.{pick}
 
--- v in the place of o, or the bits of both
-abbrev pub merged : Bool → ℕ → ℕ → ℕ
-merged replace v o = pick replace v (bitOr o v)
+-- the mask byte v over o: in its place, or the bits of both
+abbrev pub maskOver : Bool → ℕ → ℕ → ℕ
+maskOver replace v o = pick replace v (bitOr o v)
 
 -- the mask byte at row r of a column one strip wide
 abbrev pub rowsOver : List ℕ → Bool → ℕ → ℕ → ℕ → ℕ
-rowsOver rows replace c r o = merged replace (getD rows r 0) o
+rowsOver rows replace c r o = maskOver replace (getD rows r 0) o
 
 -- rows y0 to y0 + n of strip s of plane k stand within a buffer of len bytes
 pub record Plane (len width h planes k s y0 n : ℕ) : Type 0 where

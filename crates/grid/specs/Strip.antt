@@ -7,10 +7,10 @@ use lib.Dec.{eqb}
 use lib.ListN.{getD}
 use Rattle.grid.specs.Grid.{pick}
 
--- the colour v over o: 255 lets o through where the strip is transparent
-abbrev pub over : Bool → ℕ → ℕ → ℕ
-over t v o = pick (t && eqb v 255) o v
+-- the pixel v over o: 255 lets o through where the strip is transparent
+abbrev pub pixelOver : Bool → ℕ → ℕ → ℕ
+pixelOver t v o = pick (t && eqb v 255) o v
 
 -- the strip's colour at column c and row r over o
 abbrev pub stripOver : List ℕ → Bool → ℕ → ℕ → ℕ → ℕ
-stripOver strip t c r o = over t (getD strip (8 * r + c) 0) o
+stripOver strip t c r o = pixelOver t (getD strip (8 * r + c) 0) o

@@ -3,17 +3,17 @@ ghost use mathlib.Core.Path.{_≡_};
 ghost use Prim.Native.Nat.{_+_, _-_, _*_, _≤_};
 ghost use lib.ListN.{length};
 ghost use Rattle.grid.specs.Grid.{upd, boxed, Inside};
-ghost use Rattle.grid.specs.Mask.{merged, rowsOver, Plane};
-ghost use Rattle.grid.specs.Strip.{over, stripOver};
+ghost use Rattle.grid.specs.Mask.{maskOver, rowsOver, Plane};
+ghost use Rattle.grid.specs.Strip.{pixelOver, stripOver};
 
-// The colour v over the colour old.
-pub fn put_over(v: u8, old: u8, transparent: bool) -> u8
-    ensures { λ r. ⌜ r ≡ over transparent v old ⌝ }
+// A pixel over the pixel that was there.
+pub fn pixel_over(value: u8, old: u8, transparent: bool) -> u8
+    ensures { λ r. ⌜ r ≡ pixelOver transparent value old ⌝ }
 {
     if transparent {
-        if v == 255 { old } else { v }
+        if value == 255 { old } else { value }
     } else {
-        v
+        value
     }
 }
 
@@ -30,7 +30,8 @@ pub fn blit_strip(
 )
     requires { ⌜ Inside (length (now pixels)) w h (8 * s) y0 8 rows ⌝ }
     requires { ⌜ 8 * rows ≤ length (now strip) ⌝ }
-    ensures { λ _. ⌜ now (pixels .exit) ≡ upd (boxed w (8 * s) y0 8 rows (stripOver (now (strip .entry)) transparent)) (now (pixels .entry)) ⌝ }
+    ensures { λ _. ⌜ now (pixels .exit)
+        ≡ upd (boxed w (8 * s) y0 8 rows (stripOver (now (strip .entry)) transparent)) (now (pixels .entry)) ⌝ }
 {
     let x0 = 8 * s;
     let mut r = 0;
@@ -39,18 +40,18 @@ pub fn blit_strip(
         let from = 8 * r;
         let mut c = 0;
         while c < 8 {
-            pixels[at + c] = put_over(strip[from + c], pixels[at + c], transparent);
+            pixels[at + c] = pixel_over(strip[from + c], pixels[at + c], transparent);
             c += 1;
         }
         r += 1;
     }
 }
 
-// The mask byte v put in the place of old, or joined to it.
-pub fn merge(old: u8, v: u8, replace: bool) -> u8
-    ensures { λ r. ⌜ r ≡ merged replace v old ⌝ }
+// A mask byte over the one that was there: in its place, or joined to it.
+pub fn mask_over(value: u8, old: u8, replace: bool) -> u8
+    ensures { λ r. ⌜ r ≡ maskOver replace value old ⌝ }
 {
-    if replace { v } else { old | v }
+    if replace { value } else { old | value }
 }
 
 // Writes n rows of strip s of plane k, from row y0, or joins their bits to what is there. A plane has h rows of width strips.
@@ -68,13 +69,14 @@ pub fn put_rows(
 )
     requires { ⌜ Plane (length (now masks)) width h planes k s y0 n ⌝ }
     requires { ⌜ n ≤ length (now rows) ⌝ }
-    ensures { λ _. ⌜ now (masks .exit) ≡ upd (boxed width s ((k - 1) * h + y0) 1 n (rowsOver (now (rows .entry)) replace)) (now (masks .entry)) ⌝ }
+    ensures { λ _. ⌜ now (masks .exit)
+        ≡ upd (boxed width s ((k - 1) * h + y0) 1 n (rowsOver (now (rows .entry)) replace)) (now (masks .entry)) ⌝ }
 {
     let top = (k - 1) * h + y0;
     let mut r = 0;
     while r < n {
         let at = (top + r) * width + s;
-        masks[at] = merge(masks[at], rows[r], replace);
+        masks[at] = mask_over(rows[r], masks[at], replace);
         r += 1;
     }
 }

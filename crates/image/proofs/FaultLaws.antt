@@ -10,7 +10,7 @@ use Rattle.block.specs.declared.Found.{Found}
 use Rattle.block.specs.declared.Found.the-variants.{At, Missing}
 use Rattle.table.specs.Test.{leftmost, blockTest}
 use Rattle.table.specs.declared.Test.the-variants.{Passed}
-use Rattle.paint.proofs.BlockLaws.{both-pass, leftmost-each}
+use Rattle.load.proofs.BlockLaws.{both-pass, leftmost-each}
 use Rattle.room.specs.Test as room
 use Rattle.room.specs.declared.Room.{Room}
 use Rattle.image.specs.Image.{imageWidth, imageHeight, stateBlock}

@@ -185,7 +185,8 @@ module _ (n h k q y0 bh : ℕ) (f : ℕ → ℕ → ℕ → ℕ) (g : ℕ → �
               ∙ ap₂ (λ (u v : ℕ). f u v o) c r
               ∙ sym (same i o is e ∙ (rw (within-yes y0 bh ((i / n) % h) a b))))
               (λ m.
-              boxed-off n k (q * h + y0) 1 bh f i o (within-cases (q * h + y0) bh (i / n) (λ a b. absurd (off-line m (omega (arith, line)) (omega (arith, line)))) (λ z. z))
+              boxed-off n k (q * h + y0) 1 bh f i o
+              (within-cases (q * h + y0) bh (i / n) (λ a b. absurd (off-line m (omega (arith, line)) (omega (arith, line)))) (λ z. z))
               ∙ sym (same i o is e ∙ (rw m)))
               ∙ sym (strip-in ((q + 1) * h * n) (λ j. j % n) k g i o small e)
             where

@@ -15,7 +15,7 @@ use Rattle.block.proofs.Laws.{nth-at, and-left, and-right}
 use Rattle.grid.specs.Grid.{pick}
 use Rattle.table.specs.Body.{stripAt, pixelsOf}
 use Rattle.table.specs.declared.Test.the-variants.{Passed}
-use Rattle.paint.proofs.BlockLaws.{not-passed}
+use Rattle.load.proofs.BlockLaws.{not-passed}
 use Rattle.room.specs.Head.{Sound}
 use Rattle.room.specs.Test.{strips}
 use Rattle.room.specs.declared.Room.{Room}
@@ -75,7 +75,8 @@ module _ (s : List ℕ) (r : Room) (e : Entry) (p : Paintable s r e) where
   entry-fits =
       let d1 = and-left (isObject s o && isAt (imageBlock s o) && stateRight st (imageCount s o)) (isAt (stateBlock s o st)) (p .can-draw) in
       let right = and-right (isObject s o && isAt (imageBlock s o)) (stateRight st (imageCount s o)) d1 in
-      let object = object-right s o (and-left (isObject s o) (isAt (imageBlock s o)) (and-left (isObject s o && isAt (imageBlock s o)) (stateRight st (imageCount s o)) d1)) in
+      let object = object-right s o
+      (and-left (isObject s o) (isAt (imageBlock s o)) (and-left (isObject s o && isAt (imageBlock s o)) (stateRight st (imageCount s o)) d1)) in
       let w = imageWidth s o in
       let h = imageHeight s o in
       let a1 = and-left (eqb (e .x % 8) 0 && eqb (w % 8) 0 && ltb 0 w && ltb 0 h && leb (e .x + w) (8 * strips r)) (leb (e .y + h) (r .height)) (p .in-room) in
@@ -135,7 +136,8 @@ module _ (s : List ℕ) (r : Room) (e : Entry) (p : Paintable s r e) where
           smap-in = omega arith;
           smap-last = omega arith;
           payload-last = omega arith;
-          smap-passes = rw (at .strips-are, at .height-is) (image-smap-passes (r .planes) n h s (at .block + 8) (m .«payload_end») tested (m .smap) (m .«smap_end») smap-here);
+          smap-passes = rw (at .strips-are, at .height-is)
+              (image-smap-passes (r .planes) n h s (at .block + 8) (m .«payload_end») tested (m .smap) (m .«smap_end») smap-here);
         }
 
     source-plane : (k : ℕ) → 1 ≤ k → k ≤ r .planes → PlanePasses s m k

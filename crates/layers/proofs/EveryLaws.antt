@@ -38,14 +38,16 @@ module _ (f : ℕ → Bool) where
   every-more n h k = rw add-one (rw (k, h))
 
 -- a test at every cell of n rows of 8 is a test at every number below 8n
-pub every-rows : (n : ℕ) (f : ℕ → Bool) (g : ℕ → ℕ → Bool) → ((r c : ℕ) → r < n → c < 8 → f (8 * r + c) ≡ g r c) → every (8 * n) f ≡ every n (λ r. every 8 (λ c. g r c))
+pub every-rows : (n : ℕ) (f : ℕ → Bool) (g : ℕ → ℕ → Bool) → ((r c : ℕ) → r < n → c < 8 → f (8 * r + c) ≡ g r c)
+    → every (8 * n) f ≡ every n (λ r. every 8 (λ c. g r c))
 every-rows n f g same = go (every (8 * n) f) (every n (λ r. every 8 (λ c. g r c))) refl refl
   where
     go : (a b : Bool) → every (8 * n) f ≡ a → every n (λ r. every 8 (λ c. g r c)) ≡ b → a ≡ b
     go true true p q = refl
     go false false p q = refl
     go true false p q =
-        sym (every-of (λ r. every 8 (λ c. g r c)) n (λ r lr. every-of (λ c. g r c) 8 (λ c lc. sym (same r c lr lc) ∙ every-at f (8 * n) p (8 * r + c) (omega arith))))
+        sym (every-of (λ r. every 8 (λ c. g r c)) n
+        (λ r lr. every-of (λ c. g r c) 8 (λ c lc. sym (same r c lr lc) ∙ every-at f (8 * n) p (8 * r + c) (omega arith))))
         ∙ q
     go false true p q =
         sym p

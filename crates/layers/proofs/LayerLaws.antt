@@ -38,7 +38,10 @@ module _ (lay : Layout) (k : ℕ) (l : List ℕ) where
   pub over-one : (e : Entry) (f : ℕ → ℕ → ℕ) (px : List ℕ) → ((i o : ℕ) → i < lay .size → lay .strip i ≡ k → f i o ≡ lay .over i e o)
       → px ≡ upd (stripByte (lay .size) (lay .strip) k f) l → px ≡ upd (overByte lay (e ∷ []) k) l
   unfolding overByte layered
-  over-one e f px same so = so ∙ upd-ext _ _ l (λ i lt. strip-ext (lay .size) (lay .strip) k f (λ j old. lay .over j e old) i (getD l i 0) (same i (getD l i 0)))
+  over-one e f px same so =
+      so
+      ∙ upd-ext _ _ l
+      (λ i lt. strip-ext (lay .size) (lay .strip) k f (λ j old. lay .over j e old) i (getD l i 0) (same i (getD l i 0)))
 
   -- one entry more
   pub over-more : (es : List Entry) (e : Entry) (px qx : List ℕ) → px ≡ upd (overByte lay es k) l → qx ≡ upd (overByte lay (e ∷ []) k) px
@@ -82,7 +85,10 @@ module _ (lay : Layout) (es : List Entry) (t : ℕ → Bool) (l : List ℕ) wher
     next = ap (rebuiltBytes lay es (λ s. eqb s k && t s)) so ∙ rebuilt-next lay es t l k
 
     pub touch-on : t k ≡ true → (qx : List ℕ) → qx ≡ rebuiltBytes lay es (λ s. eqb s k) px → qx ≡ rebuiltBytes lay es (λ s. ltb s (k + 1) && t s) l
-    touch-on on qx q = q ∙ rebuilt-alike lay es es (λ s. eqb s k) (λ s. eqb s k && t s) px (λ i. refl) (λ i lt. same (lay .strip i) (eqb (lay .strip i) k) refl) ∙ next
+    touch-on on qx q =
+        q
+        ∙ rebuilt-alike lay es es (λ s. eqb s k) (λ s. eqb s k && t s) px (λ i. refl)
+        (λ i lt. same (lay .strip i) (eqb (lay .strip i) k) refl) ∙ next
       where
         same : (s : ℕ) (b : Bool) → eqb s k ≡ b → b ≡ (b && t s)
         same s true e = sym (ap t (eqb-true s k e) ∙ on)

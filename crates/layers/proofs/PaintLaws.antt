@@ -9,7 +9,7 @@ use lib.Bits.{bitOr}
 use lib.Dec.{eqb, leb, ltb}
 use lib.ListN.{getD}
 use Rattle.grid.specs.Grid.{pick, upd, within, boxed}
-use Rattle.grid.specs.Mask.{merged}
+use Rattle.grid.specs.Mask.{maskOver}
 use Rattle.grid.proofs.Upd.{upd-ext, upd-id, upd-then}
 use Rattle.grid.proofs.Box.{within-yes}
 use Rattle.table.specs.Body.{pixelAt}
@@ -40,12 +40,12 @@ module _ (s : List ℕ) (m : Source) (j n h k y : ℕ) (replace : Bool) (l : Lis
       sym (upd-id (upTo 1) l (λ i o. strip-past ((1 - 1) * h * n) (λ i. i % n) k (rowsByte s m j n h k y replace) i o (omega arith)))
 
   pub planes-more : (p : ℕ) (px qx : List ℕ) → 1 ≤ p → 0 < n → 0 < h → y + m .height ≤ h → px ≡ upd (upTo p) l
-      → qx ≡ upd (boxed n k ((p - 1) * h + y) 1 (m .height) (λ c q o. merged replace (maskIn s m p j q) o)) px → qx ≡ upd (upTo (p + 1)) l
+      → qx ≡ upd (boxed n k ((p - 1) * h + y) 1 (m .height) (λ c q o. maskOver replace (maskIn s m p j q) o)) px → qx ≡ upd (upTo (p + 1)) l
   unfolding rowsByte
   planes-more p px qx one some tall low so put =
       let next : p - 1 + 1 ≡ p + 1 - 1 = omega arith in
-      upd-then (upTo p) (boxed n k ((p - 1) * h + y) 1 (m .height) (λ c q o. merged replace (maskIn s m p j q) o)) (upTo (p + 1)) l px qx
-      (λ i o. plane-box n h k (p - 1) y (m .height) (λ c q o. merged replace (maskIn s m p j q) o) (rowsByte s m j n h k y replace) some tall low
+      upd-then (upTo p) (boxed n k ((p - 1) * h + y) 1 (m .height) (λ c q o. maskOver replace (maskIn s m p j q) o)) (upTo (p + 1)) l px qx
+      (λ i o. plane-box n h k (p - 1) y (m .height) (λ c q o. maskOver replace (maskIn s m p j q) o) (rowsByte s m j n h k y replace) some tall low
       (λ a b is on. let plane : a / n / h + 1 ≡ p = omega arith in rw plane) i o
       ∙ ap (λ (t : ℕ). stripByte (t * h * n) (λ i. i % n) k (rowsByte s m j n h k y replace) i o) next)
       so put
@@ -68,9 +68,11 @@ module _ (s : List ℕ) (r : Room) (sound : Sound s r) (k : ℕ) (within-room : 
   fresh-pixels l px so =
       fresh-none (pixelLayout (decoded s r)) k l (λ i o. pick (within 0 (r .height) (i / w)) (background s r (8 * k + (i % w - 8 * k)) (i / w - 0)) o) px
       same
-      (so ∙ upd-ext _ _ l (λ i lt. pixel-box n (r .height) k 0 (r .height) (λ c y o. background s r (8 * k + c) y) _ (omega arith) (omega arith) (λ j o e. refl) i (getD l i 0)))
+      (so ∙ upd-ext _ _ l
+      (λ i lt. pixel-box n (r .height) k 0 (r .height) (λ c y o. background s r (8 * k + c) y) _ (omega arith) (omega arith) (λ j o e. refl) i (getD l i 0)))
     where
-      same : (i o : ℕ) → i < r .height * w → i % w / 8 ≡ k → pick (within 0 (r .height) (i / w)) (background s r (8 * k + (i % w - 8 * k)) (i / w - 0)) o ≡ background s r (i % w) (i / w)
+      same : (i o : ℕ) → i < r .height * w → i % w / 8 ≡ k
+          → pick (within 0 (r .height) (i / w)) (background s r (8 * k + (i % w - 8 * k)) (i / w - 0)) o ≡ background s r (i % w) (i / w)
       same i o lt e =
           let pos : 0 < w = omega arith in
           let row : i / w < r .height = div-lt-iff-lt-mul pos .1 lt in
@@ -96,14 +98,16 @@ module _ (s : List ℕ) (r : Room) (sound : Sound s r) (k : ℕ) (within-room : 
     j = k - e .x / 8
 
     pixel-cell : (i o : ℕ) → i % w / 8 ≡ k
-        → overPixel (decoded s r) (i % w) (i / w) e o ≡ pick (within (e .y) (m .height) (i / w)) (pictureOver (stripIn s m j) (8 * (i / w - e .y) + (i % w - 8 * k)) o) o
+        → overPixel (decoded s r) (i % w) (i / w) e o
+        ≡ pick (within (e .y) (m .height) (i / w)) (pictureOver (stripIn s m j) (8 * (i / w - e .y) + (i % w - 8 * k)) o) o
     unfolding overPixel decoded reaches within
     pixel-cell i o is =
         let column : i % w % 8 ≡ i % w - 8 * k = omega arith in
         rw (is, on, ← at .height-is, column) (go (leb (e .y) (i / w) && ltb (i / w) (e .y + m .height)))
       where
         go : (b : Bool)
-            → cond (b && not (imageClear s (e .object) (e .state) j (i / w - e .y) (i % w - 8 * k))) (imageColour s (e .object) (e .state) j (i / w - e .y) (i % w - 8 * k)) o
+            → cond (b && not (imageClear s (e .object) (e .state) j (i / w - e .y) (i % w - 8 * k)))
+            (imageColour s (e .object) (e .state) j (i / w - e .y) (i % w - 8 * k)) o
             ≡ pick b (pictureOver (stripIn s m j) (8 * (i / w - e .y) + (i % w - 8 * k)) o) o
         go true = same-pixel s r e p m at j (i / w - e .y) (i % w - 8 * k) o
         go false = refl
@@ -114,7 +118,9 @@ module _ (s : List ℕ) (r : Room) (sound : Sound s r) (k : ℕ) (within-room : 
     unfolding pixelLayout decoded
     over-pixels low l px so =
         over-one (pixelLayout (decoded s r)) k l e (λ i o. overPixel (decoded s r) (i % w) (i / w) e o) px (λ i o lt is. refl)
-        (rw width-is at so ∙ upd-ext _ _ l (λ i lt. pixel-box n (r .height) k (e .y) (m .height) (λ c y o. pictureOver (stripIn s m j) (8 * y + c) o) _ (omega arith) low pixel-cell i (getD l i 0)))
+        (rw width-is at so ∙ upd-ext _ _ l
+        (λ i lt. pixel-box n (r .height) k (e .y) (m .height) (λ c y o. pictureOver (stripIn s m j) (8 * y + c) o) _ (omega arith) low
+        pixel-cell i (getD l i 0)))
 
     module _ (replace : Bool) (shut : replace ≡ opaque (decoded s r) (e .object) (e .state) j) where
       mask-cell : (i o : ℕ) → i % n ≡ k
@@ -122,7 +128,8 @@ module _ (s : List ℕ) (r : Room) (sound : Sound s r) (k : ℕ) (within-room : 
       unfolding overMask decoded reaches within rowsByte
       mask-cell i o is =
           rw (is, on, ← at .height-is, ← shut, same-bits s r e p m at (i / n / r .height + 1) j (i / n % r .height - e .y))
-          (go (leb (e .y) (i / n % r .height) && ltb (i / n % r .height) (e .y + m .height)) replace (maskIn s m (i / n / r .height + 1) j (i / n % r .height - e .y)))
+          (go (leb (e .y) (i / n % r .height) && ltb (i / n % r .height) (e .y + m .height))
+          replace (maskIn s m (i / n / r .height + 1) j (i / n % r .height - e .y)))
         where
           go : (b q : Bool) (v : ℕ) → pick b (pick q v (bitOr o v)) o ≡ cond b (cond q v (bitOr o v)) o
           go true true v = refl

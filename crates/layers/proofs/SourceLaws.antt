@@ -10,7 +10,7 @@ use lib.Seq.{getD-take}
 use Rattle.block.specs.Tag.{tag-SMAP}
 use Rattle.block.specs.Tree.{findTag, isAt}
 use Rattle.block.specs.declared.Found.the-variants.{At, Missing}
-use Rattle.grid.specs.Strip.{over}
+use Rattle.grid.specs.Strip.{pixelOver}
 use Rattle.strip.specs.Picture.{Picture, refusal, picture, answerOf, Answered}
 use Rattle.strip.specs.Strip.{Filled}
 use Rattle.strip.specs.declared.Answer.{Answer}
@@ -21,8 +21,8 @@ use Rattle.table.specs.Body.{rowsAt, pixelsOf}
 use Rattle.table.specs.Test.{pictureTest, stripTest, blockTest}
 use Rattle.table.specs.declared.Test.the-variants.{Passed}
 use Rattle.table.proofs.TestLaws.{refused-stops}
-use Rattle.paint.proofs.BlockLaws.{not-passed, block-table, block-strip}
-use Rattle.paint.proofs.CellLaws.{at-size, drawn-pixels, read-row}
+use Rattle.load.proofs.BlockLaws.{not-passed, block-table, block-strip}
+use Rattle.load.proofs.CellLaws.{at-size, drawn-pixels, read-row}
 use Rattle.room.specs.declared.Room.{Room}
 use Rattle.image.specs.Image.{objectCount, stateBlock}
 use Rattle.image.specs.Fault.{planeIn}
@@ -62,9 +62,9 @@ module _ (s : List ℕ) (m : Source) (j : ℕ) (ok : Readable s m) (fits : j < m
       value : (i : ℕ) → i < 8 * m .height → getD e i 0 ≡ getD (pixelsOf (stripIn s m j)) i 0
       value i lt = drawn-pixels (m .height) (stripIn s m j) d e (at-size (m .strips) (m .height) s (m .smap) (m .«smap_end») j) strip-passes (read .1) i lt
 
-      pub read-over : (i o : ℕ) → i < 8 * m .height → over clear (getD e i 0) o ≡ pictureOver (stripIn s m j) i o
+      pub read-over : (i o : ℕ) → i < 8 * m .height → pixelOver clear (getD e i 0) o ≡ pictureOver (stripIn s m j) i o
       unfolding pictureOver
-      read-over i o lt = ap₂ (λ (t : Bool) (v : ℕ). over t v o) code (value i lt)
+      read-over i o lt = ap₂ (λ (t : Bool) (v : ℕ). pixelOver t v o) code (value i lt)
 
       pub read-none-clear : noneClear clear e (8 * m .height) ≡ pictureOpaque (stripIn s m j) (8 * m .height)
       unfolding noneClear
@@ -79,7 +79,8 @@ module _ (s : List ℕ) (m : Source) (p j : ℕ) (fits : j < m .strips) (passes 
     pub plane-table : tableRight true (m .strips) s b z ≡ true
     plane-table = block-table _ _ _ _ _ _ plane-block
 
-    pub rows-read : (d e : List ℕ) (a : Made) → Filled (m .height) (rowsAt (m .strips) (m .height) s b z j) d e a → (y : ℕ) → y < m .height → getD e y 0 ≡ maskIn s m p j y
+    pub rows-read : (d e : List ℕ) (a : Made) → Filled (m .height) (rowsAt (m .strips) (m .height) s b z j) d e a
+        → (y : ℕ) → y < m .height → getD e y 0 ≡ maskIn s m p j y
     rows-read d e a filled y lt = rw (← at) (read-row (m .strips) (m .height) s b z j d e a (block-strip _ _ _ _ _ _ plane-block j fits) filled y lt)
 
   pub rows-zero : Missing ≡ planeIn s (m .payload) (m .«payload_end») p → (e : List ℕ) → take (0 + m .height) e ≡ replicate (m .height) 0

@@ -9,8 +9,8 @@ use Rattle.block.specs.Tag.{tag-SMAP}
 use Rattle.block.specs.Tree.{findTag}
 use Rattle.block.specs.declared.Found.the-variants.{At}
 use Rattle.grid.specs.Grid.{pick, within}
-use Rattle.grid.specs.Mask.{merged}
-use Rattle.grid.specs.Strip.{over}
+use Rattle.grid.specs.Mask.{maskOver}
+use Rattle.grid.specs.Strip.{pixelOver}
 use Rattle.strip.specs.Picture.{Picture}
 use Rattle.table.specs.Body.{stripAt, pixelsOf}
 use Rattle.table.specs.Test.{blockTest}
@@ -45,7 +45,7 @@ maskIn s m p j y = foundMask (m .strips) (m .height) s (planeIn s (m .payload) (
 
 -- pixel i of a strip, counted by rows, over the colour `old`
 unfoldable pub pictureOver : Picture → ℕ → ℕ → ℕ
-pictureOver p i old = over (clearCode p) (getD (pixelsOf p) i 0) old
+pictureOver p i old = pixelOver (clearCode p) (getD (pixelsOf p) i 0) old
 
 -- of the first n pixels of a strip, none is transparent
 abbrev pub pictureOpaque : Picture → ℕ → Bool
@@ -56,7 +56,7 @@ unfoldable pub rowsByte : List ℕ → Source → (j n h k y : ℕ) → Bool →
 rowsByte s m j n h k y replace i old =
     let row = i / n % h in
     let new = maskIn s m (i / n / h + 1) j (row - y) in
-    pick (within y (m .height) row) (merged replace new old) old
+    pick (within y (m .height) row) (maskOver replace new old) old
 
 -- the same in planes 1 to `planes`
 abbrev pub planesByte : List ℕ → Source → (j n h planes k y : ℕ) → Bool → ℕ → ℕ → ℕ

@@ -1,1 +1,4 @@
+pub mod BlockLaws
+pub mod CellLaws
+pub mod BoxLaws
 pub mod LoadLaws

@@ -6,17 +6,42 @@ use Prim.Native.Nat.{ℕ, _+_, _-_, _*_, _/_, _%_, _≤_}
 use native.Mathlib.Nat.{add-mul, one-mul}
 use native.Mathlib.Omega.{arith}
 use lib.Arith.{digits-div, digits-mod}
-use lib.ListN.{take, drop, replicate}
+use lib.ListN.{length, take, drop, replicate}
 use Rattle.block.specs.declared.Found.the-variants.{At}
 use Rattle.grid.specs.Grid.{upd, boxed}
 use Rattle.grid.proofs.Box.{box-below}
 use Rattle.strip.proofs.PictureLaws.{over-of}
 use Rattle.table.specs.Test.{blockTest, leftmost}
 use Rattle.table.specs.declared.Test.the-variants.{Passed}
-use Rattle.paint.proofs.BlockLaws.{both-pass, leftmost-each}
-use Rattle.room.specs.Test.{strips, planeIn, planeTest, picturesTest}
+use Rattle.room.specs.Head.{Sound}
+use Rattle.room.specs.Test.{strips, planeIn, planeTest, picturesTest, roomTest, withSurfaces}
+use Rattle.room.specs.declared.Lent.{Lent}
 use Rattle.room.specs.declared.Room.{Room}
-use Rattle.load.specs.Load.{mask, loadedPlane, emptied}
+use Rattle.room.specs.declared.Tested.{Tested}
+use Rattle.room.specs.declared.Tested.the-variants.{Right}
+use Rattle.room.proofs.TestLaws.{test-passes, surfaces-long}
+use Rattle.load.specs.Load.{sessionSize, mask, loadedPlane, loadTest, emptied}
+use Rattle.load.proofs.BlockLaws.{both-pass, leftmost-each}
+
+-- an accepted room, and buffers that are long enough
+pub record Accepted (s session pixels masks : List ℕ) (r : Room) : Type 0 where
+  pub sound : Sound s r
+  pub pictures : picturesTest s r ≡ Passed
+  pub session-long : sessionSize ≤ length session
+  pub pixels-long : r .width * r .height ≤ length pixels
+  pub masks-long : strips r * (r .planes * r .height) ≤ length masks
+
+-- the test's answer, as the code asks for it
+module _ (s session pixels masks : List ℕ) (lent : Lent) (t : Tested)
+    (is-lent : lent ≡ withSurfaces sessionSize (length session) (length pixels) (length masks)) (test : t ≡ roomTest lent s) where
+  pub answered : (u : Tested) → t ≡ u → u ≡ loadTest s session pixels masks
+  answered u is = sym is ∙ test ∙ ap (λ (l : Lent). roomTest l s) is-lent
+
+  pub accepted : (r : Room) → t ≡ Right r → Accepted s session pixels masks r
+  accepted r is =
+      let passes = test-passes (withSurfaces sessionSize (length session) (length pixels) (length masks)) s r (answered (Right r) is) in
+      let long = surfaces-long sessionSize (length session) (length pixels) (length masks) r (passes .enough) in
+      record { sound = passes .sound; pictures = passes .pictures; session-long = long .0; pixels-long = long .1; masks-long = long .2 }
 
 module _ (s : List ℕ) (r : Room) (passed : picturesTest s r ≡ Passed) where
   pub background-passes : blockTest false (strips r) (r .height) s (r .smap) (r .«smap_end») ≡ Passed
@@ -30,7 +55,8 @@ module _ (s : List ℕ) (r : Room) (passed : picturesTest s r ≡ Passed) where
       (both-pass (blockTest false (strips r) (r .height) s (r .smap) (r .«smap_end»)) (leftmost (planeTest s r) 1 (r .planes)) passed .1) k one (omega arith)
 
 -- the test of a plane that is there
-pub found-passes : (s : List ℕ) (r : Room) (k b z : ℕ) → At b z ≡ planeIn s r k → planeTest s r k ≡ Passed → blockTest true (strips r) (r .height) s b z ≡ Passed
+pub found-passes : (s : List ℕ) (r : Room) (k b z : ℕ) → At b z ≡ planeIn s r k → planeTest s r k ≡ Passed
+    → blockTest true (strips r) (r .height) s b z ≡ Passed
 unfolding planeTest
 found-passes s r k b z at passed = rw (← at) at passed
 

@@ -1,4 +1,6 @@
 // The load of a room into lent pixels, masks and session (document 01, "What the bench and the player do").
+pub mod paint;
+
 ghost use mathlib.Core.Path.{_≡_};
 ghost use Prim.Native.Nat.{_*_, _≤_};
 ghost use lib.ListN.{length};
@@ -7,6 +9,9 @@ ghost use Rattle.table.specs.declared.Test.the-variants.{Passed};
 ghost use Rattle.room.specs.Head.{Sound};
 ghost use Rattle.room.specs.Test.{strips, planeTest, picturesTest, numberOf};
 ghost use Rattle.load.specs.Load.{loadedPixels, loadedPlane, loadedMasks, emptied, loadTest, pixelsAfter, masksAfter, sessionAfter};
+use crate::paint::clear_plane;
+use crate::paint::paint_background;
+use crate::paint::paint_plane;
 use block::Found;
 use room::Room;
 use room::Tested;
@@ -30,7 +35,7 @@ fn load_pixels(room: &[u8], r: Room, pixels: &mut [u8])
     ensures { λ _. ⌜ now (pixels .exit) ≡ loadedPixels (now (room .entry)) r (now (pixels .entry)) ⌝ }
 {
     let strips = r.width / 8;
-    paint::paint_background(room, strips, r.height, r.smap, r.smap_end, pixels);
+    paint_background(room, strips, r.height, r.smap, r.smap_end, pixels);
 }
 
 // Paints plane k, or clears it where it is missing.
@@ -43,10 +48,10 @@ fn load_plane(room: &[u8], r: Room, k: usize, masks: &mut [u8])
     let strips = r.width / 8;
     match plane_in(room, r, k) {
         Found::At(b, z) => {
-            paint::paint_plane(room, strips, r.height, b, z, r.planes, k, masks);
+            paint_plane(room, strips, r.height, b, z, r.planes, k, masks);
         }
         Found::Missing => {
-            paint::clear_plane(strips, r.height, r.planes, k, masks);
+            clear_plane(strips, r.height, r.planes, k, masks);
         }
     }
 }
@@ -69,9 +74,15 @@ fn load_masks(room: &[u8], r: Room, masks: &mut [u8])
 // Loads a room: 0, or the number of the refusal.
 pub fn load(room: &[u8], session: &mut [u8], pixels: &mut [u8], masks: &mut [u8]) -> u32
     ensures { λ n. ⌜ n ≡ numberOf (loadTest (now (room .entry)) (now (session .entry)) (now (pixels .entry)) (now (masks .entry))) ⌝ }
-    ensures { λ _. ⌜ now (session .exit) ≡ sessionAfter (loadTest (now (room .entry)) (now (session .entry)) (now (pixels .entry)) (now (masks .entry))) (now (session .entry)) ⌝ }
-    ensures { λ _. ⌜ now (pixels .exit) ≡ pixelsAfter (now (room .entry)) (loadTest (now (room .entry)) (now (session .entry)) (now (pixels .entry)) (now (masks .entry))) (now (pixels .entry)) ⌝ }
-    ensures { λ _. ⌜ now (masks .exit) ≡ masksAfter (now (room .entry)) (loadTest (now (room .entry)) (now (session .entry)) (now (pixels .entry)) (now (masks .entry))) (now (masks .entry)) ⌝ }
+    ensures { λ _. ⌜ now (session .exit)
+        ≡ sessionAfter (loadTest (now (room .entry)) (now (session .entry)) (now (pixels .entry)) (now (masks .entry)))
+        (now (session .entry)) ⌝ }
+    ensures { λ _. ⌜ now (pixels .exit)
+        ≡ pixelsAfter (now (room .entry)) (loadTest (now (room .entry)) (now (session .entry)) (now (pixels .entry)) (now (masks .entry)))
+        (now (pixels .entry)) ⌝ }
+    ensures { λ _. ⌜ now (masks .exit)
+        ≡ masksAfter (now (room .entry)) (loadTest (now (room .entry)) (now (session .entry)) (now (pixels .entry)) (now (masks .entry)))
+        (now (masks .entry)) ⌝ }
 {
     let lent = surfaces_lent(450, session.len(), pixels.len(), masks.len());
     match test_room(room, lent) {

@@ -5,7 +5,7 @@ ghost use Prim.Native.Nat.{ℕ, _+_, _-_, _*_, _≤_, _<_};
 ghost use lib.Dec.{eqb};
 ghost use lib.ListN.{length};
 ghost use Rattle.grid.specs.Grid.{upd, boxed};
-ghost use Rattle.grid.specs.Mask.{merged};
+ghost use Rattle.grid.specs.Mask.{maskOver};
 ghost use Rattle.table.specs.declared.Test.the-variants.{Passed};
 ghost use Rattle.room.specs.Head.{Sound};
 ghost use Rattle.room.specs.Test.{strips, picturesTest};
@@ -15,6 +15,7 @@ ghost use Rattle.layers.specs.Source.{Readable, PlanePasses, stripIn, maskIn, p
 use layers::Source;
 use layers::read::none_clear;
 use layers::read::plane_rows;
+use load::paint::paint_strip;
 use room::Room;
 use strip::Answer;
 
@@ -62,7 +63,7 @@ fn put_plane(
     requires { ⌜ PlanePasses (now room) m p × (1 ≤ p) × (p ≤ r .planes) ⌝ }
     requires { ⌜ (k < strips r) × (y + m .height ≤ r .height) × (strips r * (r .planes * r .height) ≤ length (now masks)) ⌝ }
     ensures { λ _. ⌜ now (masks .exit)
-        ≡ upd (boxed (strips r) k ((p - 1) * r .height + y) 1 (m .height) (λ c q o. merged replace (maskIn (now (room .entry)) m p j q) o))
+        ≡ upd (boxed (strips r) k ((p - 1) * r .height + y) 1 (m .height) (λ c q o. maskOver replace (maskIn (now (room .entry)) m p j q) o))
         (now (masks .entry)) ⌝ }
 {
     let mut scratch = [0u8; 200];
@@ -123,6 +124,6 @@ pub fn room_strip(room: &[u8], r: Room, k: usize, pixels: &mut [u8], masks: &mut
         strips: r.width / 8,
         height: r.height,
     };
-    paint::paint_strip(room, r.width / 8, r.height, r.smap, r.smap_end, k, pixels);
+    paint_strip(room, r.width / 8, r.height, r.smap, r.smap_end, k, pixels);
     put_planes(room, r, m, k, k, 0, true, masks);
 }

@@ -12,7 +12,8 @@ use Rattle.grid.proofs.blit_strip.Tie as tie
 
 abbrev Inv-loop2 : tie.InvT-loop2
 Inv-loop2 pixels₀ w h s y0 strip rows transparent x0 r at from c₀ pixels c =
-    (pixels ≡ upd (rowed w x0 (y0 + r) c (λ k o. stripOver strip transparent k r o)) pixels₀) × (c ≤ 8) × (length pixels ≡ length pixels₀) × (at + 8 ≤ length pixels₀) × (from + 8 ≤ length strip)
+    (pixels ≡ upd (rowed w x0 (y0 + r) c (λ k o. stripOver strip transparent k r o)) pixels₀) × (c ≤ 8) × (length pixels ≡ length pixels₀)
+    × (at + 8 ≤ length pixels₀) × (from + 8 ≤ length strip)
 
 abbrev μ-loop2 : tie.MeasureT-loop2
 μ-loop2 pixels₀ w h s y0 strip rows transparent x0 r at from c₀ pixels c = 8 - c
@@ -25,8 +26,12 @@ abbrev μ-loop : tie.MeasureT-loop
 μ-loop pixels₀ w h s y0 strip rows transparent x0 r₀ pixels r = rows - r
 
 -- the last cell of the row that a turn writes is within the buffer
-cell : (c : tie.In-loop Inv-loop2 μ-loop2 Inv-loop μ-loop) → (c .before .before .before .before .args .y0 + c .before .loop .r) * c .before .before .before .before .args .w + (8 * c .before .before .before .before .args .s + 7) < length (c .before .before .before .before .args .pixels .now)
-cell c = spot _ _ (c .before .before .before .before .args .h) _ _ 8 (c .before .before .before .before .args .rows) _ 7 (c .before .before .before .before .pre .0) (c .loop-test .taken) (omega arith)
+module _ (c : tie.In-loop Inv-loop2 μ-loop2 Inv-loop μ-loop) where
+  abbrev start : tie.Start Inv-loop2 μ-loop2 Inv-loop μ-loop
+  start = c .before .before .before .before
+
+  cell : (start .args .y0 + c .before .loop .r) * start .args .w + (8 * start .args .s + 7) < length (start .args .pixels .now)
+  cell = spot _ _ (start .args .h) _ _ 8 (start .args .rows) _ 7 (start .pre .0) (c .loop-test .taken) (omega arith)
 
 mul-x0 : tie.Need-mul-x0 Inv-loop2 μ-loop2 Inv-loop μ-loop
 mul-x0 c = omega arith
@@ -49,20 +54,20 @@ mul-from c = omega arith
 loop2-holds : tie.Need-loop2-holds Inv-loop2 μ-loop2 Inv-loop μ-loop
 loop2-holds c = (row-none _ _ _ _ _, omega arith, refl, omega (arith, cell c), omega arith)
 
-add-put-over : tie.Need-add-put-over Inv-loop2 μ-loop2 Inv-loop μ-loop
-add-put-over c = omega arith
+add-pixel-over : tie.Need-add-pixel-over Inv-loop2 μ-loop2 Inv-loop μ-loop
+add-pixel-over c = omega arith
 
-shared-slice-read-put-over : tie.Need-shared-slice-read-put-over Inv-loop2 μ-loop2 Inv-loop μ-loop
-shared-slice-read-put-over c = omega arith
+shared-slice-read-pixel-over : tie.Need-shared-slice-read-pixel-over Inv-loop2 μ-loop2 Inv-loop μ-loop
+shared-slice-read-pixel-over c = omega arith
 
-add-put-over-2 : tie.Need-add-put-over-2 Inv-loop2 μ-loop2 Inv-loop μ-loop
-add-put-over-2 c = omega arith
+add-pixel-over-2 : tie.Need-add-pixel-over-2 Inv-loop2 μ-loop2 Inv-loop μ-loop
+add-pixel-over-2 c = omega arith
 
-slice-read-put-over : tie.Need-slice-read-put-over Inv-loop2 μ-loop2 Inv-loop μ-loop
-slice-read-put-over c = omega arith
+slice-read-pixel-over : tie.Need-slice-read-pixel-over Inv-loop2 μ-loop2 Inv-loop μ-loop
+slice-read-pixel-over c = omega arith
 
-put-over-requires : tie.Need-put-over-requires Inv-loop2 μ-loop2 Inv-loop μ-loop
-put-over-requires c κs = search needs
+pixel-over-requires : tie.Need-pixel-over-requires Inv-loop2 μ-loop2 Inv-loop μ-loop
+pixel-over-requires c κs = search needs
 
 add-pixels : tie.Need-add-pixels Inv-loop2 μ-loop2 Inv-loop μ-loop
 add-pixels c = omega arith
@@ -80,7 +85,7 @@ loop2-again : tie.Need-loop2-again Inv-loop2 μ-loop2 Inv-loop μ-loop
 loop2-again c =
     let at-loop2 = c .before .before .before .before in
     let inv = at-loop2 .loop2 .inv in (
-      row-write _ _ _ _ _ _ _ (omega arith) (inv .0) _ _ (omega arith) (c .put-over .ensures),
+      row-write _ _ _ _ _ _ _ (omega arith) (inv .0) _ _ (omega arith) (c .pixel-over .ensures),
       omega arith,
       simp length-set (inv .2),
       inv .3,
@@ -123,11 +128,11 @@ blit-strip-spec =
     add-at-2
     mul-from
     loop2-holds
-    add-put-over
-    shared-slice-read-put-over
-    add-put-over-2
-    slice-read-put-over
-    put-over-requires
+    add-pixel-over
+    shared-slice-read-pixel-over
+    add-pixel-over-2
+    slice-read-pixel-over
+    pixel-over-requires
     add-pixels
     slice-write-pixels
     add-c

@@ -13,7 +13,8 @@ use Rattle.grid.proofs.put_rows.Tie as tie
 
 abbrev Inv-loop : tie.InvT-loop
 Inv-loop masks₀ width h planes k s y0 rows n replace top r₀ masks r =
-    (masks ≡ upd (boxed width s top 1 r (rowsOver rows replace)) masks₀) × (r ≤ n) × (length masks ≡ length masks₀) × Inside (length masks₀) width (planes * h) s top 1 n
+    (masks ≡ upd (boxed width s top 1 r (rowsOver rows replace)) masks₀) × (r ≤ n) × (length masks ≡ length masks₀)
+    × Inside (length masks₀) width (planes * h) s top 1 n
 
 abbrev μ-loop : tie.MeasureT-loop
 μ-loop masks₀ width h planes k s y0 rows n replace top r₀ masks r = n - r
@@ -39,17 +40,20 @@ mul-at c = omega (arith, spot _ _ _ _ _ _ _ _ 0 (c .before .loop .inv .3) (c .lo
 add-at-2 : tie.Need-add-at-2 Inv-loop μ-loop
 add-at-2 c = omega (arith, spot _ _ _ _ _ _ _ _ 0 (c .before .loop .inv .3) (c .loop-test .taken) (omega arith))
 
-slice-read-merge : tie.Need-slice-read-merge Inv-loop μ-loop
-slice-read-merge c = omega (arith, spot _ _ _ _ _ _ _ _ 0 (c .before .before .loop .inv .3) (c .before .loop-test .taken) (omega arith))
+shared-slice-read-mask-over : tie.Need-shared-slice-read-mask-over Inv-loop μ-loop
+shared-slice-read-mask-over c = omega arith
 
-shared-slice-read-merge : tie.Need-shared-slice-read-merge Inv-loop μ-loop
-shared-slice-read-merge c = omega arith
+slice-read-mask-over : tie.Need-slice-read-mask-over Inv-loop μ-loop
+slice-read-mask-over c =
+    omega (arith, spot _ _ _ _ _ _ _ _ 0 (c .before .before .before .loop .inv .3) (c .before .before .loop-test .taken) (omega arith))
 
-merge-requires : tie.Need-merge-requires Inv-loop μ-loop
-merge-requires c κs = search needs
+mask-over-requires : tie.Need-mask-over-requires Inv-loop μ-loop
+mask-over-requires c κs = search needs
 
 slice-write-masks : tie.Need-slice-write-masks Inv-loop μ-loop
-slice-write-masks c = omega (arith, spot _ _ _ _ _ _ _ _ 0 (c .before .before .before .before .loop .inv .3) (c .before .before .before .loop-test .taken) (omega arith))
+slice-write-masks c =
+    let turn = c .before .before .before in
+    omega (arith, spot _ _ _ _ _ _ _ _ 0 (turn .before .loop .inv .3) (turn .loop-test .taken) (omega arith))
 
 add-r : tie.Need-add-r Inv-loop μ-loop
 add-r c = omega arith
@@ -60,7 +64,7 @@ loop-less c = omega arith
 loop-again : tie.Need-loop-again Inv-loop μ-loop
 loop-again c =
     let inv = c .before .before .before .before .loop .inv in
-    (column-write _ _ _ _ _ _ _ (omega arith) (inv .0) _ _ refl (c .merge .ensures), omega arith, simp length-set (inv .2), inv .3)
+    (column-write _ _ _ _ _ _ _ (omega arith) (inv .0) _ _ refl (c .mask-over .ensures), omega arith, simp length-set (inv .2), inv .3)
 
 same-length : tie.Need-same-length Inv-loop μ-loop
 same-length c = omega arith
@@ -83,9 +87,9 @@ put-rows-spec =
     add-at
     mul-at
     add-at-2
-    slice-read-merge
-    shared-slice-read-merge
-    merge-requires
+    shared-slice-read-mask-over
+    slice-read-mask-over
+    mask-over-requires
     slice-write-masks
     add-r
     loop-less

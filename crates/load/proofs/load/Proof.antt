@@ -1,9 +1,6 @@
-use Rattle.room.proofs.TestLaws.{test-passes, surfaces-long}
-use Rattle.room.specs.Test.{roomTest}
-use lib.ListN.{length}
+-- `load::load` meets its contract. Assumes nothing.
+use Rattle.load.proofs.LoadLaws.{answered, accepted}
 use denote.Ref.{now}
-use Prim.Native.Nat.{_-_}
-use mathlib.Core.Path.{sym, ap, _∙_}
 use borrow.Author.Needs.{needs}
 use Rattle.load.proofs.load.Statement.{statement}
 use Rattle.load.proofs.load.Tie as tie
@@ -19,25 +16,29 @@ enum-known-r c = search needs
 
 empty-session-requires : tie.Need-empty-session-requires
 empty-session-requires c κs =
-    let right = sym (c .before .before .r .given .1) ∙ c .before .before .before .before .test-room .ensures ∙ ap (λ l. roomTest l (now (c .before .before .before .before .before .before .before .before .before .before .args .room))) (c .before .before .before .before .before .surfaces-lent .ensures) in
-    let long = surfaces-long _ _ _ _ _ (test-passes _ _ _ right .enough) in
-    long .0
+    let a = c .before .before .before .before .before .before .before .before .before .before .args in
+    let lent = c .before .before .before .before .before .surfaces-lent .ensures in
+    let test = c .before .before .before .before .test-room .ensures in
+    accepted (now (a .room)) (now (a .session)) (now (a .pixels)) (now (a .masks)) _ _ lent test _ (c .before .before .r .given .1) .session-long
 
 load-pixels-requires : tie.Need-load-pixels-requires
 load-pixels-requires c κs =
     let a = c .before .before .before .before .before .before .before .before .before .before .before .before .before .before .args in
-    let right = sym (c .before .before .before .before .before .before .r .given .1) ∙ c .before .before .before .before .before .before .before .before .test-room .ensures ∙ ap (λ l. roomTest l (now (c .before .before .before .before .before .before .before .before .before .before .before .before .before .before .args .room))) (c .before .before .before .before .before .before .before .before .before .surfaces-lent .ensures) in
-    let passes = test-passes _ _ _ right in
-    let long = surfaces-long 450 (length (now (a .session))) (length (now (a .pixels))) (length (now (a .masks))) (c .before .before .before .before .before .before .r .given .0 .0) (passes .enough) in
-    (passes .sound, (passes .pictures, long .1))
+    let lent = c .before .before .before .before .before .before .before .before .before .surfaces-lent .ensures in
+    let test = c .before .before .before .before .before .before .before .before .test-room .ensures in
+    let is = c .before .before .before .before .before .before .r .given .1 in
+    let room = accepted (now (a .room)) (now (a .session)) (now (a .pixels)) (now (a .masks)) _ _ lent test _ is in
+    (room .sound, (room .pictures, room .pixels-long))
 
 load-masks-requires : tie.Need-load-masks-requires
 load-masks-requires c κs =
-    let a = c .before .before .before .before .before .before .before .before .before .before .before .before .before .before .before .before .before .before .args in
-    let right = sym (c .before .before .before .before .before .before .before .before .before .before .r .given .1) ∙ c .before .before .before .before .before .before .before .before .before .before .before .before .test-room .ensures ∙ ap (λ l. roomTest l (now (c .before .before .before .before .before .before .before .before .before .before .before .before .before .before .before .before .before .before .args .room))) (c .before .before .before .before .before .before .before .before .before .before .before .before .before .surfaces-lent .ensures) in
-    let passes = test-passes _ _ _ right in
-    let long = surfaces-long 450 (length (now (a .session))) (length (now (a .pixels))) (length (now (a .masks))) (c .before .before .before .before .before .before .before .before .before .before .r .given .0 .0) (passes .enough) in
-    (passes .sound, (passes .pictures, long .2))
+    let tested = c .before .before .before .before .before .before .before .before .before .before in
+    let a = tested .before .before .before .before .before .before .before .before .args in
+    let lent = tested .before .before .before .surfaces-lent .ensures in
+    let test = tested .before .before .test-room .ensures in
+    let is = tested .r .given .1 in
+    let room = accepted (now (a .room)) (now (a .session)) (now (a .pixels)) (now (a .masks)) _ _ lent test _ is in
+    (room .sound, (room .pictures, room .masks-long))
 
 enum-known-number : tie.Need-enum-known-number
 enum-known-number c = search needs
@@ -56,12 +57,22 @@ same-length-3 c = search needs
 
 returns : tie.Need-returns
 returns c =
-    let right = sym (c .before .before .before .before .before .before .before .before .before .before .before .before .before .r .given .1) ∙ c .before .before .before .before .before .before .before .before .before .before .before .before .before .before .before .test-room .ensures ∙ ap (λ l. roomTest l (now (c .before .before .before .before .before .before .before .before .before .before .before .before .before .before .before .before .before .before .before .before .before .args .room))) (c .before .before .before .before .before .before .before .before .before .before .before .before .before .before .before .before .surfaces-lent .ensures) in
-    (rw (← right), (rw (← right) (c .before .before .before .before .before .before .before .before .before .before .empty-session .ensures), (rw (← right) (c .before .before .before .before .before .before .load-pixels .ensures), rw (← right) (c .before .before .load-masks .ensures))))
+    let tested = c .before .before .before .before .before .before .before .before .before .before .before .before .before in
+    let a = tested .before .before .before .before .before .before .before .before .args in
+    let lent = tested .before .before .before .surfaces-lent .ensures in
+    let test = tested .before .before .test-room .ensures in
+    let is = tested .r .given .1 in
+    let right = answered (now (a .room)) (now (a .session)) (now (a .pixels)) (now (a .masks)) _ _ lent test _ is in
+    let emptied = c .before .before .before .before .before .before .before .before .before .before .empty-session .ensures in
+    let painted = c .before .before .before .before .before .before .load-pixels .ensures in
+    (rw (← right), (rw (← right) emptied, (rw (← right) painted, rw (← right) (c .before .before .load-masks .ensures))))
 
 returns-2 : tie.Need-returns-2
 returns-2 c =
-    let no = sym (c .before .number .given .1) ∙ c .before .before .before .test-room .ensures ∙ ap (λ l. roomTest l (now (c .before .before .before .before .before .before .before .before .before .args .room))) (c .before .before .before .before .surfaces-lent .ensures) in
+    let a = c .before .before .before .before .before .before .before .before .before .args in
+    let lent = c .before .before .before .before .surfaces-lent .ensures in
+    let test = c .before .before .before .test-room .ensures in
+    let no = answered (now (a .room)) (now (a .session)) (now (a .pixels)) (now (a .masks)) _ _ lent test _ (c .before .number .given .1) in
     (rw (← no), (rw (← no), (rw (← no), rw (← no))))
 
 pub load-spec : {M : Type 1} → statement M

@@ -1,3 +1,4 @@
+-- `load::load_masks` meets its contract. Assumes nothing.
 use Rattle.load.proofs.LoadLaws.{plane-passes, rowOf, planes-more}
 use Rattle.load.specs.Load.{loadedMasks}
 use Rattle.room.specs.Test.{strips}
@@ -11,7 +12,9 @@ use Rattle.load.proofs.load_masks.Statement.{statement}
 use Rattle.load.proofs.load_masks.Tie as tie
 
 abbrev Inv-loop : tie.InvT-loop
-Inv-loop room r masks₀ planes k₀ masks k = (1 ≤ k) × (k ≤ planes + 1) × (length masks ≡ length masks₀) × (masks ≡ upd (boxed (strips r) 0 0 (strips r) ((k - 1) * r .height) (rowOf room r)) masks₀)
+Inv-loop room r masks₀ planes k₀ masks k =
+    (1 ≤ k) × (k ≤ planes + 1) × (length masks ≡ length masks₀)
+    × (masks ≡ upd (boxed (strips r) 0 0 (strips r) ((k - 1) * r .height) (rowOf room r)) masks₀)
 
 abbrev μ-loop : tie.MeasureT-loop
 μ-loop room r masks₀ planes k₀ masks k = planes + 1 - k
@@ -23,8 +26,12 @@ loop-holds c =
 
 load-plane-requires : tie.Need-load-plane-requires Inv-loop μ-loop
 load-plane-requires c κs =
-    let room : strips (c .before .before .before .before .before .args .r) * (c .before .before .before .before .before .args .r .planes * c .before .before .before .before .before .args .r .height) ≤ length (c .before .before .loop .masks) = omega (arith, c .before .before .before .before .before .pre .1 .1, c .before .before .loop .inv .2) in
-    ((c .before .before .before .before .before .pre .0, c .before .before .loop .inv .0, c .before .loop-test .taken), (plane-passes _ _ (c .before .before .before .before .before .pre .1 .0) _ (c .before .before .loop .inv .0) (c .before .loop-test .taken), room))
+    let start = c .before .before .before .before .before in
+    let inv = c .before .before .loop .inv in
+    let more = c .before .loop-test .taken in
+    let r = start .args .r in
+    let room : strips r * (r .planes * r .height) ≤ length (c .before .before .loop .masks) = omega (arith, start .pre .1 .1, inv .2) in
+    ((start .pre .0, inv .0, more), (plane-passes _ _ (start .pre .1 .0) _ (inv .0) more, room))
 
 add-k : tie.Need-add-k Inv-loop μ-loop
 add-k c = omega arith
@@ -34,7 +41,9 @@ loop-less c = omega arith
 
 loop-again : tie.Need-loop-again Inv-loop μ-loop
 loop-again c =
-    (omega arith, omega arith, c .before .before .load-plane .kept .1 .1 .1 .0 ∙ c .before .before .before .before .before .loop .inv .2, planes-more _ _ _ _ _ _ (c .before .before .before .before .before .loop .inv .0) (c .before .before .before .before .before .loop .inv .3) (c .before .before .load-plane .ensures))
+    let inv = c .before .before .before .before .before .loop .inv in
+    let call = c .before .before .load-plane in
+    (omega arith, omega arith, call .kept .1 .1 .1 .0 ∙ inv .2, planes-more _ _ _ _ _ _ (inv .0) (inv .3) (call .ensures))
 
 same-length : tie.Need-same-length Inv-loop μ-loop
 same-length c = c .before .loop .inv .2

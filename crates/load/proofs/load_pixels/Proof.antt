@@ -1,3 +1,4 @@
+-- `load::load_pixels` meets its contract. Assumes nothing.
 use Rattle.load.proofs.LoadLaws.{background-passes}
 use Rattle.load.specs.Load.{background, loadedPixels}
 use native.Mathlib.Omega.{arith}
@@ -9,9 +10,12 @@ use Rattle.load.proofs.load_pixels.Tie as tie
 
 paint-background-requires : tie.Need-paint-background-requires
 paint-background-requires c κs =
-    let i = c .before .before .before .before .pre .0 in
-    let whole : 8 * (c .before .before .before .before .args .r .width / 8) ≡ c .before .before .before .before .args .r .width = omega (arith, i .whole) in
-    ((omega arith, i .highest, omega (arith, i .smap-in), i .smap-last), (background-passes _ _ (c .before .before .before .before .pre .1 .0), rw whole (c .before .before .before .before .pre .1 .1)))
+    let start = c .before .before .before .before in
+    let sound = start .pre .0 in
+    let whole : 8 * (start .args .r .width / 8) ≡ start .args .r .width = omega (arith, sound .whole) in (
+      (omega arith, sound .highest, omega (arith, sound .smap-in), sound .smap-last),
+      (background-passes _ _ (start .pre .1 .0), rw whole (start .pre .1 .1)),
+    )
 
 same-length : tie.Need-same-length
 same-length c = search needs
@@ -19,8 +23,9 @@ same-length c = search needs
 returns : tie.Need-returns
 unfolding loadedPixels background
 returns c =
-    let i = c .before .before .before .before .before .before .before .pre .0 in
-    let whole : 8 * (c .before .before .before .before .before .before .before .args .r .width / 8) ≡ c .before .before .before .before .before .before .before .args .r .width = omega (arith, i .whole) in
+    let start = c .before .before .before .before .before .before .before in
+    let sound = start .pre .0 in
+    let whole : 8 * (start .args .r .width / 8) ≡ start .args .r .width = omega (arith, sound .whole) in
     rw whole at (c .before .before .paint-background .ensures)
 
 pub load-pixels-spec : {M : Type 1} → statement M

@@ -1,3 +1,4 @@
+-- `load::load_plane` meets its contract. Assumes nothing.
 use Rattle.load.proofs.LoadLaws.{found-passes}
 use Rattle.load.specs.Load.{mask, loadedPlane}
 use Rattle.room.specs.Test.{planeIn}
@@ -18,18 +19,22 @@ enum-known-b c = search needs
 paint-plane-requires : tie.Need-paint-plane-requires
 unfolding planeIn
 paint-plane-requires c κs =
-    let i = c .before .before .before .before .before .before .before .before .pre .0 .0 in
+    let start = c .before .before .before .before .before .before .before .before in
+    let sound = start .pre .0 .0 in
     let at = sym (c .before .before .b .given .1) ∙ c .before .before .before .before .plane-in .ensures in
-    let in-room = nth-at _ _ _ _ _ _ _ at in
-    ((omega arith, i .highest, omega (arith, in-room), omega (arith, in-room, i .image-last)), (found-passes _ _ _ _ _ at (c .before .before .before .before .before .before .before .before .pre .1 .0), (i .few, c .before .before .before .before .before .before .before .before .pre .0 .1, c .before .before .before .before .before .before .before .before .pre .0 .2, c .before .before .before .before .before .before .before .before .pre .1 .1)))
+    let in-room = nth-at _ _ _ _ _ _ _ at in (
+      (omega arith, sound .highest, omega (arith, in-room), omega (arith, in-room, sound .image-last)),
+      (found-passes _ _ _ _ _ at (start .pre .1 .0), (sound .few, start .pre .0 .1, start .pre .0 .2, start .pre .1 .1)),
+    )
 
 enum-told : tie.Need-enum-told
 enum-told c = search needs
 
 clear-plane-requires : tie.Need-clear-plane-requires
 clear-plane-requires c κs =
-    let i = c .before .before .before .before .before .before .before .pre .0 .0 in
-    (omega arith, i .highest, i .few, c .before .before .before .before .before .before .before .pre .0 .1, c .before .before .before .before .before .before .before .pre .0 .2, c .before .before .before .before .before .before .before .pre .1 .1)
+    let start = c .before .before .before .before .before .before .before in
+    let sound = start .pre .0 .0 in
+    (omega arith, sound .highest, sound .few, start .pre .0 .1, start .pre .0 .2, start .pre .1 .1)
 
 same-length : tie.Need-same-length
 same-length c = search needs

@@ -49,7 +49,9 @@ enum-told : tie.Need-enum-told
 enum-told c = search needs
 
 returns : tie.Need-returns
-returns c = absurd (state-there _ _ _ (c .before .before .before .before .before .before .before .pre .1) (sym (c .enum-told .given .1) ∙ c .before .before .state-block .ensures))
+returns c =
+    let state = c .before .before .state-block .ensures in
+    absurd (state-there _ _ _ (c .before .before .before .before .before .before .before .pre .1) (sym (c .enum-told .given .1) ∙ state))
 
 add-find-tag : tie.Need-add-find-tag
 add-find-tag c =
@@ -68,24 +70,31 @@ enum-told-2 : tie.Need-enum-told-2
 enum-told-2 c = search needs
 
 returns-2 : tie.Need-returns-2
-returns-2 c = absurd (smap-there _ _ _ (c .before .before .before .before .before .before .before .before .before .before .before .pre .1) _ _ (sym (c .before .before .before .before .b .given .1) ∙ c .before .before .before .before .before .before .state-block .ensures) (sym (c .enum-told2 .given .1) ∙ c .before .before .find-tag .ensures))
+returns-2 c =
+    let state = c .before .before .before .before .before .before .state-block .ensures in
+    let at = sym (c .before .before .before .before .b .given .1) ∙ state in
+    let none = sym (c .enum-told2 .given .1) ∙ c .before .before .find-tag .ensures in
+    absurd (smap-there _ _ _ (c .before .before .before .before .before .before .before .before .before .before .before .pre .1) _ _ at none)
 
 add-t11 : tie.Need-add-t11
 add-t11 c =
-    let in-room = state-at _ _ _ _ _ (sym (c .before .before .before .before .before .b .given .1) ∙ c .before .before .before .before .before .before .before .state-block .ensures) in
-    omega (arith, in-room, c .before .before .before .before .before .before .before .before .before .before .before .before .pre .0 .0 .small)
+    let start = c .before .before .before .before .before .before .before .before .before .before .before .before in
+    let state = c .before .before .before .before .before .before .before .state-block .ensures in
+    let in-room = state-at _ _ _ _ _ (sym (c .before .before .before .before .before .b .given .1) ∙ state) in
+    omega (arith, in-room, start .pre .0 .0 .small)
 
 returns-3 : tie.Need-returns-3
 returns-3 c =
-    let a = c .before .before .before .before .before .before .before .before .before .before .before .before .args in
-    let g = c .before .before .before .before .before .before .before .before .before .before .before .before .pre .0 in
+    let start = c .before .before .before .before .before .before .before .before .before .before .before .before in
+    let table = start .pre .0 in
+    let state = c .before .before .before .before .before .before .before .state-block .ensures in
     record {
       block = _;
-      block-at = sym (c .before .before .before .before .before .b .given .1) ∙ c .before .before .before .before .before .before .before .state-block .ensures;
+      block-at = sym (c .before .before .before .before .before .b .given .1) ∙ state;
       payload-at = refl;
       smap-at = sym (c .before .smap .given .1) ∙ c .before .before .before .find-tag .ensures;
-      strips-are = ap (λ (w : ℕ). w / 8) (gathered-width _ _ (g .0) _ (g .1) (g .2));
-      height-is = gathered-height _ _ (g .0) _ (g .1) (g .2);
+      strips-are = ap (λ (w : ℕ). w / 8) (gathered-width _ _ (table .0) _ (table .1) (table .2));
+      height-is = gathered-height _ _ (table .0) _ (table .1) (table .2);
     }
 
 pub source-of-spec : {M : Type 1} → statement M

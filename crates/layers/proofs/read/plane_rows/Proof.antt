@@ -18,10 +18,13 @@ enum-known-b c = search needs
 
 read-rows-requires : tie.Need-read-rows-requires
 read-rows-requires c κs =
+    let start = c .before .before .before .before .before .before .before in
+    let p = start .pre .0 in
     let at = sym (c .before .before .b .given .1) ∙ c .before .before .before .before .find-tag .ensures in
-    let in-room = nth-at _ _ _ _ _ _ _ at in
-    let p = c .before .before .before .before .before .before .before .pre .0 in
-    ((p .1, p .0 .narrow, omega (arith, in-room), omega (arith, in-room, p .0 .payload-last)), (plane-table _ (c .before .before .before .before .before .before .before .args .m) _ _ (p .1) (c .before .before .before .before .before .before .before .pre .1) _ _ at, p .3))
+    let in-room = nth-at _ _ _ _ _ _ _ at in (
+      (p .1, p .0 .narrow, omega (arith, in-room), omega (arith, in-room, p .0 .payload-last)),
+      (plane-table _ (start .args .m) _ _ (p .1) (start .pre .1) _ _ at, p .3),
+    )
 
 enum-told : tie.Need-enum-told
 enum-told c = search needs
@@ -34,16 +37,19 @@ same-length c = search needs
 
 returns : tie.Need-returns
 returns c =
+    let start = c .before .before .before .before .before .before .before .before .before .before in
     let at = sym (c .before .before .before .before .before .b .given .1) ∙ c .before .before .before .before .before .before .before .find-tag .ensures in
-    rows-read _ (c .before .before .before .before .before .before .before .before .before .before .args .m) _ _ (c .before .before .before .before .before .before .before .before .before .before .pre .0 .1) (c .before .before .before .before .before .before .before .before .before .before .pre .1) _ _ at _ _ (c .before .before .read-rows .result) (c .before .before .read-rows .ensures)
+    let read = c .before .before .read-rows in
+    rows-read _ (start .args .m) _ _ (start .pre .0 .1) (start .pre .1) _ _ at _ _ (read .result) (read .ensures)
 
 same-length-2 : tie.Need-same-length-2
 same-length-2 c = search needs
 
 returns-2 : tie.Need-returns-2
 returns-2 c =
+    let start = c .before .before .before .before .before .before .before .before .before in
     let none = sym (c .before .before .before .before .enum-told .given .1) ∙ c .before .before .before .before .before .before .find-tag .ensures in
-    rows-zero _ (c .before .before .before .before .before .before .before .before .before .args .m) _ _ (c .before .before .before .before .before .before .before .before .before .pre .0 .1) (c .before .before .before .before .before .before .before .before .before .pre .1) none _ (c .before .before .fill .ensures .0)
+    rows-zero _ (start .args .m) _ _ (start .pre .0 .1) (start .pre .1) none _ (c .before .before .fill .ensures .0)
 
 pub plane-rows-spec : {M : Type 1} → statement M
 plane-rows-spec =

@@ -1,7 +1,7 @@
 -- `repaint::picture::put_strip` meets its contract. Assumes nothing.
 use native.Mathlib.Omega.{arith}
 use mathlib.Core.Path.{_∙_}
-use Rattle.paint.proofs.BoxLaws.{box-same}
+use Rattle.load.proofs.BoxLaws.{box-same}
 use Rattle.layers.proofs.SourceLaws.{strip-table, strip-read, read-over, read-none-clear}
 use borrow.Author.Needs.{needs}
 use Rattle.repaint.proofs.picture.put_strip.Statement.{statement}

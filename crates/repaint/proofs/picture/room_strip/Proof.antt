@@ -2,7 +2,7 @@
 use native.Mathlib.Omega.{arith}
 use mathlib.Core.Path.{refl, sym, _∙_}
 use Rattle.load.proofs.LoadLaws.{background-passes, plane-passes}
-use Rattle.paint.proofs.BlockLaws.{block-table, block-strip}
+use Rattle.load.proofs.BlockLaws.{block-table, block-strip}
 use Rattle.image.proofs.FaultLaws.{room-plane}
 use Rattle.layers.proofs.PaintLaws.{width-is, fresh-pixels, fresh-masks}
 use borrow.Author.Needs.{needs}

@@ -1,4 +1,4 @@
--- `paint::paint_plane` meets its contract.
+-- `load::paint::paint_plane` meets its contract.
 use mathlib.Core.Path.{_≡_, refl, ap}
 use Prim.Native.Nat.{ℕ, _-_, _*_, _≤_}
 use native.Mathlib.Omega.{arith}
@@ -7,9 +7,9 @@ use lib.ListN.{length}
 use Rattle.grid.specs.Grid.{upd, boxed}
 use Rattle.grid.proofs.Box.{box-thin, box-beside}
 use Rattle.table.specs.Body.{maskAt}
-use Rattle.paint.proofs.BlockLaws.{block-table, block-strip}
-use Rattle.paint.proofs.paint_plane.Statement.{statement}
-use Rattle.paint.proofs.paint_plane.Tie as tie
+use Rattle.load.proofs.BlockLaws.{block-table, block-strip}
+use Rattle.load.proofs.paint.paint_plane.Statement.{statement}
+use Rattle.load.proofs.paint.paint_plane.Tie as tie
 
 abbrev Inv-loop : tie.InvT-loop
 Inv-loop room n h b z planes plane masks₀ s₀ masks s =
@@ -38,7 +38,8 @@ loop-again : tie.Need-loop-again Inv-loop μ-loop
 loop-again c =
     let head = c .before .before .before .before .before in
     let a = head .before .before .before .args in (
-      box-beside _ 0 (head .loop .s) _ _ _ _ (λ s y o. maskAt (a .n) (a .h) (now (a .room)) (a .b) (a .z) s y) (λ x y o. maskAt (a .n) (a .h) (now (a .room)) (a .b) (a .z) (head .loop .s) y) _ _ _ (omega arith)
+      box-beside _ 0 (head .loop .s) _ _ _ _ (λ s y o. maskAt (a .n) (a .h) (now (a .room)) (a .b) (a .z) s y)
+          (λ x y o. maskAt (a .n) (a .h) (now (a .room)) (a .b) (a .z) (head .loop .s) y) _ _ _ (omega arith)
           (λ x y o lx ly. ap (λ (s : ℕ). maskAt (a .n) (a .h) (now (a .room)) (a .b) (a .z) s y) (omega arith))
           (head .loop .inv .0)
           (c .before .before .paint-rows .ensures),

@@ -1,11 +1,11 @@
--- `paint::paint_strip` meets its contract.
+-- `load::paint::paint_strip` meets its contract.
 use denote.Ref.{now}
 use native.Mathlib.Omega.{arith}
 use borrow.Author.Needs.{needs}
-use Rattle.paint.proofs.BoxLaws.{box-same}
-use Rattle.paint.proofs.CellLaws.{read-pixel}
-use Rattle.paint.proofs.paint_strip.Statement.{statement}
-use Rattle.paint.proofs.paint_strip.Tie as tie
+use Rattle.load.proofs.BoxLaws.{box-same}
+use Rattle.load.proofs.CellLaws.{read-pixel}
+use Rattle.load.proofs.paint.paint_strip.Statement.{statement}
+use Rattle.load.proofs.paint.paint_strip.Tie as tie
 
 slice-aggregate-read-strip : tie.Need-slice-aggregate-read-strip
 slice-aggregate-read-strip c = search needs

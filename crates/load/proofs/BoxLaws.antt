@@ -83,7 +83,8 @@ module _ (from m v : ℕ) (d e : List ℕ) (same : length e ≡ length d) (room 
           (λ q. rw (within-hi from m i (omega arith)) (after-run i (omega arith))))
 
 -- a box of whole rows, all v
-pub run-box : (w y0 bh v : ℕ) (d e : List ℕ) → length e ≡ length d → y0 * w + bh * w ≤ length d → take (y0 * w + bh * w) e ≡ take (y0 * w) d ++ replicate (bh * w) v
+pub run-box : (w y0 bh v : ℕ) (d e : List ℕ) → length e ≡ length d → y0 * w + bh * w ≤ length d
+    → take (y0 * w + bh * w) e ≡ take (y0 * w) d ++ replicate (bh * w) v
     → drop (y0 * w + bh * w) e ≡ drop (y0 * w + bh * w) d → e ≡ upd (boxed w 0 y0 w bh (λ c r o. v)) d
 run-box w y0 bh v d e same room front back =
     run-upd (y0 * w) (bh * w) v d e same room front back ∙ upd-ext _ _ d (λ i lt. sym (wide-box w y0 bh (λ c r o. v) i (getD d i 0)))

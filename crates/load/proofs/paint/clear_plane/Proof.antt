@@ -1,12 +1,12 @@
--- `paint::clear_plane` meets its contract.
+-- `load::paint::clear_plane` meets its contract.
 use Prim.Native.Nat.{_+_, _-_, _*_, _≤_}
 use native.Mathlib.Nat.{mul-le-mul-right}
 use native.Mathlib.Omega.{arith}
 use lib.ListN.{length}
 use borrow.Author.Needs.{needs}
-use Rattle.paint.proofs.BoxLaws.{run-box, plane-room}
-use Rattle.paint.proofs.clear_plane.Statement.{statement}
-use Rattle.paint.proofs.clear_plane.Tie as tie
+use Rattle.load.proofs.BoxLaws.{run-box, plane-room}
+use Rattle.load.proofs.paint.clear_plane.Statement.{statement}
+use Rattle.load.proofs.paint.clear_plane.Tie as tie
 
 -- the plane's bytes lie in the buffer
 room : (c : tie.Start) → (c .args .plane - 1) * c .args .h * c .args .n + c .args .h * c .args .n ≤ length (c .args .masks .now)

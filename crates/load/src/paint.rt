@@ -17,7 +17,8 @@ pub fn paint_strip(room: &[u8], n: usize, h: usize, b: usize, z: usize, k: usize
     requires { ⌜ tableRight false n (now room) b z ≡ true ⌝ }
     requires { ⌜ stripTest false n h (now room) b z k ≡ Passed ⌝ }
     requires { ⌜ 8 * n * h ≤ length (now pixels) ⌝ }
-    ensures { λ _. ⌜ now (pixels .exit) ≡ upd (boxed (8 * n) (8 * k) 0 8 h (λ c r o. pixelAt n h (now (room .entry)) b z (8 * k + c) r)) (now (pixels .entry)) ⌝ }
+    ensures { λ _. ⌜ now (pixels .exit)
+        ≡ upd (boxed (8 * n) (8 * k) 0 8 h (λ c r o. pixelAt n h (now (room .entry)) b z (8 * k + c) r)) (now (pixels .entry)) ⌝ }
 {
     let mut scratch = [0u8; 1600];
     table::read_strip(room, n, h, b, z, k, &mut scratch);
@@ -29,7 +30,8 @@ pub fn paint_background(room: &[u8], n: usize, h: usize, b: usize, z: usize, pix
     requires { ⌜ (n ≤ 128) × (h ≤ 200) × (b ≤ z) × (z ≤ length (now room)) ⌝ }
     requires { ⌜ blockTest false n h (now room) b z ≡ Passed ⌝ }
     requires { ⌜ 8 * n * h ≤ length (now pixels) ⌝ }
-    ensures { λ _. ⌜ now (pixels .exit) ≡ upd (boxed (8 * n) 0 0 (8 * n) h (λ x y o. pixelAt n h (now (room .entry)) b z x y)) (now (pixels .entry)) ⌝ }
+    ensures { λ _. ⌜ now (pixels .exit)
+        ≡ upd (boxed (8 * n) 0 0 (8 * n) h (λ x y o. pixelAt n h (now (room .entry)) b z x y)) (now (pixels .entry)) ⌝ }
 {
     let mut k: usize = 0;
     while k < n {
@@ -54,7 +56,8 @@ pub fn paint_rows(
     requires { ⌜ tableRight true n (now room) b z ≡ true ⌝ }
     requires { ⌜ stripTest true n h (now room) b z k ≡ Passed ⌝ }
     requires { ⌜ (planes ≤ 4) × (1 ≤ plane) × (plane ≤ planes) × (n * (planes * h) ≤ length (now masks)) ⌝ }
-    ensures { λ _. ⌜ now (masks .exit) ≡ upd (boxed n k ((plane - 1) * h) 1 h (λ c r o. maskAt n h (now (room .entry)) b z k r)) (now (masks .entry)) ⌝ }
+    ensures { λ _. ⌜ now (masks .exit)
+        ≡ upd (boxed n k ((plane - 1) * h) 1 h (λ c r o. maskAt n h (now (room .entry)) b z k r)) (now (masks .entry)) ⌝ }
 {
     let mut scratch = [0u8; 200];
     table::read_rows(room, n, h, b, z, k, &mut scratch);
@@ -75,7 +78,8 @@ pub fn paint_plane(
     requires { ⌜ (n ≤ 128) × (h ≤ 200) × (b ≤ z) × (z ≤ length (now room)) ⌝ }
     requires { ⌜ blockTest true n h (now room) b z ≡ Passed ⌝ }
     requires { ⌜ (planes ≤ 4) × (1 ≤ plane) × (plane ≤ planes) × (n * (planes * h) ≤ length (now masks)) ⌝ }
-    ensures { λ _. ⌜ now (masks .exit) ≡ upd (boxed n 0 ((plane - 1) * h) n h (λ s y o. maskAt n h (now (room .entry)) b z s y)) (now (masks .entry)) ⌝ }
+    ensures { λ _. ⌜ now (masks .exit)
+        ≡ upd (boxed n 0 ((plane - 1) * h) n h (λ s y o. maskAt n h (now (room .entry)) b z s y)) (now (masks .entry)) ⌝ }
 {
     let mut s: usize = 0;
     while s < n {

@@ -39,4 +39,6 @@ module _ (mask : Bool) (n h : ℕ) (s : List ℕ) (b z : ℕ) (passed : blockTes
 
   pub block-strip : (k : ℕ) → k < n → stripTest mask n h s b z k ≡ Passed
   unfolding blockTest
-  block-strip k lt = leftmost-each (stripTest mask n h s b z) n 0 (table-first (tableRight mask n s b z) (leftmost (stripTest mask n h s b z) 0 n) 5 passed .1) k (omega arith) (omega arith)
+  block-strip k lt =
+      let strips = table-first (tableRight mask n s b z) (leftmost (stripTest mask n h s b z) 0 n) 5 passed .1 in
+      leftmost-each (stripTest mask n h s b z) n 0 strips k (omega arith) (omega arith)

@@ -1,11 +1,11 @@
--- `paint::paint_rows` meets its contract.
+-- `load::paint::paint_rows` meets its contract.
 use denote.Ref.{now}
 use native.Mathlib.Nat.{add-zero}
 use borrow.Author.Needs.{needs}
-use Rattle.paint.proofs.BoxLaws.{box-same}
-use Rattle.paint.proofs.CellLaws.{read-row}
-use Rattle.paint.proofs.paint_rows.Statement.{statement}
-use Rattle.paint.proofs.paint_rows.Tie as tie
+use Rattle.load.proofs.BoxLaws.{box-same}
+use Rattle.load.proofs.CellLaws.{read-row}
+use Rattle.load.proofs.paint.paint_rows.Statement.{statement}
+use Rattle.load.proofs.paint.paint_rows.Tie as tie
 
 slice-aggregate-read-rows : tie.Need-slice-aggregate-read-rows
 slice-aggregate-read-rows c = search needs

@@ -1,4 +1,4 @@
--- `paint::paint_background` meets its contract.
+-- `load::paint::paint_background` meets its contract.
 use mathlib.Core.Path.{_≡_, refl}
 use Prim.Native.Nat.{_+_, _-_, _*_, _≤_}
 use native.Mathlib.Omega.{arith}
@@ -7,9 +7,9 @@ use lib.ListN.{length}
 use Rattle.grid.specs.Grid.{upd, boxed}
 use Rattle.grid.proofs.Box.{box-thin, box-beside}
 use Rattle.table.specs.Body.{pixelAt}
-use Rattle.paint.proofs.BlockLaws.{block-table, block-strip}
-use Rattle.paint.proofs.paint_background.Statement.{statement}
-use Rattle.paint.proofs.paint_background.Tie as tie
+use Rattle.load.proofs.BlockLaws.{block-table, block-strip}
+use Rattle.load.proofs.paint.paint_background.Statement.{statement}
+use Rattle.load.proofs.paint.paint_background.Tie as tie
 
 abbrev Inv-loop : tie.InvT-loop
 Inv-loop room n h b z pixels₀ k₀ pixels k =

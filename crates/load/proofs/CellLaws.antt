@@ -19,7 +19,7 @@ use Rattle.strip.proofs.PictureLaws.{length-upTo}
 use Rattle.table.specs.Body.{stripAt, rowsAt, bodyOf, pixelsOf, rowValues, pixelAt, maskAt}
 use Rattle.table.specs.Test.{pictureTest, rowsTest, stripTest}
 use Rattle.table.specs.declared.Test.the-variants.{Passed}
-use Rattle.paint.proofs.BlockLaws.{not-passed}
+use Rattle.load.proofs.BlockLaws.{not-passed}
 
 -- a picture of h rows has 8h pixels
 abbrev pub Sized : ℕ → Picture → Type 0
@@ -62,10 +62,12 @@ unfolding stripAt
 at-size n h s b z k = strip-size h (bodyOf false n s b z k)
 
 -- the buffer holds the picture that was drawn over its front
-pub drawn-pixels : (h : ℕ) (p : Picture) (d e : List ℕ) → Sized h p → pictureTest p ≡ Passed → e ≡ drawnOver p d → (j : ℕ) → j < 8 * h → getD e j 0 ≡ getD (pixelsOf p) j 0
+pub drawn-pixels : (h : ℕ) (p : Picture) (d e : List ℕ) → Sized h p → pictureTest p ≡ Passed → e ≡ drawnOver p d
+    → (j : ℕ) → j < 8 * h → getD e j 0 ≡ getD (pixelsOf p) j 0
 unfolding over
 drawn-pixels h (refusal n) d e size passed drawn j lt = absurd (not-passed n passed)
-drawn-pixels h (picture clear px) d e size passed drawn j lt = ap (λ (l : List ℕ). getD l j 0) drawn ∙ List·getD-append px (drop (length px) d) 0 j (omega arith)
+drawn-pixels h (picture clear px) d e size passed drawn j lt =
+    ap (λ (l : List ℕ). getD l j 0) drawn ∙ List·getD-append px (drop (length px) d) 0 j (omega arith)
 
 -- the buffer holds the rows that it was filled with
 pub filled-rows : (h : ℕ) (x : Strip) (d e : List ℕ) (r : Made) → rowsTest x ≡ Passed → Filled h x d e r → (y : ℕ) → y < h → getD e y 0 ≡ getD (rowValues x) y 0

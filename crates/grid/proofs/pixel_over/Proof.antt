@@ -1,8 +1,8 @@
--- `grid::put_over` meets its contract. Assumes nothing.
+-- `grid::pixel_over` meets its contract. Assumes nothing.
 use borrow.Author.Needs.{needs}
 use borrow.Author.Tests.{eq-eqb, ne-eqb}
-use Rattle.grid.proofs.put_over.Statement.{statement}
-use Rattle.grid.proofs.put_over.Tie as tie
+use Rattle.grid.proofs.pixel_over.Statement.{statement}
+use Rattle.grid.proofs.pixel_over.Tie as tie
 
 returns : tie.Need-returns
 returns c = rw (c .before .if1 .taken, eq-eqb _ _ (c .if2 .taken))
@@ -13,5 +13,5 @@ returns-2 c = rw (c .before .if1 .taken, ne-eqb _ _ (c .if2 .left))
 returns-3 : tie.Need-returns-3
 returns-3 c = search needs
 
-pub put-over-spec : {M : Type 1} → statement M
-put-over-spec = tie.close (tie.spec returns returns-2 returns-3)
+pub pixel-over-spec : {M : Type 1} → statement M
+pixel-over-spec = tie.close (tie.spec returns returns-2 returns-3)

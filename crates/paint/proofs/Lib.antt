@@ -1,3 +1,0 @@
-pub mod BlockLaws
-pub mod CellLaws
-pub mod BoxLaws
