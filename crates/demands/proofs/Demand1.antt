@@ -18,7 +18,9 @@ use Rattle.costume.proofs.Theorems.{start-unchanged}
 use Rattle.limbs.proofs.Theorems.{tick-unchanged}
 use Rattle.load.specs.Load.{sessionAfter, pixelsAfter, masksAfter}
 use Rattle.scene.specs.Painting.{Room, Surfaces}
-use Rattle.scene.specs.Session.{Call, make, takeBack, State, called}
+use Rattle.scene.specs.declared.Call.{Call}
+use Rattle.scene.specs.declared.Call.the-variants.{Make, TakeBack}
+use Rattle.scene.specs.Session.{State, called}
 use Rattle.scene.specs.declared.Step.{Step}
 use Rattle.replay.specs.Replay as replay
 use Rattle.session.specs.Plans as plans
@@ -73,13 +75,13 @@ module _ (s : List ℕ) (b : play.Lent) where
 
   module _ (r : room.Room) (long : 450 ≤ length (b .session)) where
     session-stays : (c : Call) → Refusing (called (decoded s r) (held r) c .number) → kept s r (b .session) c ≡ b .session
-    session-stays (make st) f =
+    session-stays (Make st) f =
         step-kept (b .session) st (plans.planned (decoded s r) (b .session) st) (λ z. f (make-called (decoded s r) (b .session) long (held r .surfaces) st .0 ∙ z))
-    session-stays takeBack f = back-kept (b .session) (plans.plannedBack (decoded s r) (b .session)) (λ z. f (back-called (decoded s r) (b .session) long (held r .surfaces) .0 ∙ z))
+    session-stays TakeBack f = back-kept (b .session) (plans.plannedBack (decoded s r) (b .session)) (λ z. f (back-called (decoded s r) (b .session) long (held r .surfaces) .0 ∙ z))
 
     state-stays : (c : Call) → Refusing (called (decoded s r) (held r) c .number) → called (decoded s r) (held r) c .after ≡ held r
-    state-stays (make st) f = called-refused (decoded s r) (held r) st f
-    state-stays takeBack f = back-refused (decoded s r) (held r) f
+    state-stays (Make st) f = called-refused (decoded s r) (held r) st f
+    state-stays TakeBack f = back-refused (decoded s r) (held r) f
 
     right-stays : (c : Call) → Refusing (called (decoded s r) (held r) c .number) → afterOf c (tested.Right r) ≡ b
     right-stays c f =

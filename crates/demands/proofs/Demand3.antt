@@ -9,7 +9,9 @@ use Rattle.room.specs.declared.Room as bytes
 use Rattle.room.specs.declared.Tested.the-variants.{Right}
 use Rattle.scene.specs.Painting.{Room, Surfaces}
 use Rattle.scene.specs.Session as scene
-use Rattle.scene.specs.Session.{Call, make, takeBack, State, called, stateAfter, sceneOf}
+use Rattle.scene.specs.declared.Call.{Call}
+use Rattle.scene.specs.declared.Call.the-variants.{Make, TakeBack}
+use Rattle.scene.specs.Session.{State, called, stateAfter, sceneOf}
 use Rattle.layers.specs.Decoded.{decoded}
 use Rattle.play.specs.Calls.{stateOf}
 use Rattle.play.specs.Bytes.{Lent, testOf, numberOf, bytesAfter}
@@ -30,9 +32,9 @@ module _ (s : List ℕ) (r : bytes.Room) (b : Lent) (accepted : testOf s b ≡ R
   -- what stood before each step, as states
   stacked-held : (c : Call) (x : Lent) (bs : List Lent) → map held (stacked c x bs) ≡ scene.stacked c (held x) (map held bs)
   unfolding stacked scene.stacked
-  stacked-held (make st) x bs = refl
-  stacked-held takeBack x [] = refl
-  stacked-held takeBack x (p ∷ bs) = refl
+  stacked-held (Make st) x bs = refl
+  stacked-held TakeBack x [] = refl
+  stacked-held TakeBack x (p ∷ bs) = refl
 
   befores-held : (cs : List Call) → map held (befores s b cs) ≡ scene.befores D (surfacesIn b) cs
   unfolding befores scene.befores

@@ -17,7 +17,7 @@ use Rattle.actor.specs.Stamp.{stampNumber, stampFrame}
 use Rattle.costume.specs.Start.{startNumber, startBytes}
 use Rattle.limbs.specs.Tick.{tickNumber, tickBytes}
 use Rattle.blocks.specs.Call.{number, smapOutcome, planeOutcome, answerOf, targetAfter}
-use Rattle.scene.specs.Session.{Call}
+use Rattle.scene.specs.declared.Call.{Call}
 use Rattle.play.specs.Bytes as play
 
 -- a call that isn't accepted

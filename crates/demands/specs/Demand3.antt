@@ -15,7 +15,9 @@ use lib.Dec.{eqb}
 use Rattle.room.specs.declared.Room as bytes
 use Rattle.scene.specs.Painting.{Room, Surfaces, painted}
 use Rattle.scene.specs.Steps.{Scene, bare, replay}
-use Rattle.scene.specs.Session.{Call, make, takeBack, listAnswer, stepList, sceneOf}
+use Rattle.scene.specs.declared.Call.{Call}
+use Rattle.scene.specs.declared.Call.the-variants.{Make, TakeBack}
+use Rattle.scene.specs.Session.{listAnswer, stepList, sceneOf}
 use Rattle.stored.specs.Bytes.{sessionOf}
 use Rattle.layers.specs.Decoded.{decoded}
 use Rattle.play.specs.Bytes.{Lent, numberOf, bytesAfter}
@@ -29,9 +31,9 @@ surfacesIn b = record { pixels = b .pixels; masks = b .masks }
 
 -- what stood just before each accepted step that isn't taken back, newest first
 unfoldable pub stacked : Call → Lent → List Lent → List Lent
-stacked (make st) b bs = b ∷ bs
-stacked takeBack b [] = []
-stacked takeBack b (p ∷ bs) = bs
+stacked (Make st) b bs = b ∷ bs
+stacked TakeBack b [] = []
+stacked TakeBack b (p ∷ bs) = bs
 
 unfoldable pub befores : List ℕ → Lent → List Call → List Lent
 befores s b [] = []
@@ -57,4 +59,4 @@ pub record Demand3 (s : List ℕ) (r : bytes.Room) (b : Lent) (cs : List Call) (
   -- a refused call leaves every byte
   pub refusing : (numberOf s (bytesAfter s b cs) c ≡ 0 → ⊥) → bytesAfter s b (c ∷ cs) ≡ bytesAfter s b cs
   -- an accepted take-back restores what stood before the newest accepted step not yet taken back
-  pub restoring : c ≡ takeBack → numberOf s (bytesAfter s b cs) c ≡ 0 → Restored (decoded s r) (bytesAfter s b (c ∷ cs)) (befores s b cs)
+  pub restoring : c ≡ TakeBack → numberOf s (bytesAfter s b cs) c ≡ 0 → Restored (decoded s r) (bytesAfter s b (c ∷ cs)) (befores s b cs)

@@ -8,7 +8,7 @@ ghost use Rattle.blocks.specs.Call.{smapOutcome, planeOutcome, answerOf, target
 ghost use Rattle.costume.specs.Start.{startedOf, startBytes};
 ghost use Rattle.limbs.specs.Limb.{drawnOf};
 ghost use Rattle.limbs.specs.Tick.{tickNumber, tickBytes};
-ghost use Rattle.scene.specs.Session.{make, takeBack};
+ghost use Rattle.scene.specs.declared.Call.the-variants.{Make, TakeBack};
 ghost use Rattle.scene.specs.declared.Place.the-variants as place;
 ghost use Rattle.scene.specs.declared.Step.the-variants as step;
 ghost use Rattle.kildegrom.specs.Word.{hiddenWord, startedWord, drawnWord, wroteWord, pointedWord};
@@ -62,10 +62,10 @@ pub extern "C" fn kg_draw_last(
     object: u32,
     state: u32,
 ) -> u32
-    ensures { λ n. ⌜ n ≡ callNumber (now (room .entry)) (now (session .entry)) (now (pixels .entry)) (now (masks .entry)) (make (step.Draw object state place.Last)) (loadTest (now (room .entry)) (now (session .entry)) (now (pixels .entry)) (now (masks .entry))) ⌝ }
-    ensures { λ _. ⌜ now (session .exit) ≡ callSession (now (room .entry)) (now (session .entry)) (make (step.Draw object state place.Last)) (loadTest (now (room .entry)) (now (session .entry)) (now (pixels .entry)) (now (masks .entry))) ⌝ }
-    ensures { λ _. ⌜ now (pixels .exit) ≡ callPixels (now (room .entry)) (now (session .entry)) (now (pixels .entry)) (now (masks .entry)) (make (step.Draw object state place.Last)) (loadTest (now (room .entry)) (now (session .entry)) (now (pixels .entry)) (now (masks .entry))) ⌝ }
-    ensures { λ _. ⌜ now (masks .exit) ≡ callMasks (now (room .entry)) (now (session .entry)) (now (pixels .entry)) (now (masks .entry)) (make (step.Draw object state place.Last)) (loadTest (now (room .entry)) (now (session .entry)) (now (pixels .entry)) (now (masks .entry))) ⌝ }
+    ensures { λ n. ⌜ n ≡ callNumber (now (room .entry)) (now (session .entry)) (now (pixels .entry)) (now (masks .entry)) (Make (step.Draw object state place.Last)) (loadTest (now (room .entry)) (now (session .entry)) (now (pixels .entry)) (now (masks .entry))) ⌝ }
+    ensures { λ _. ⌜ now (session .exit) ≡ callSession (now (room .entry)) (now (session .entry)) (Make (step.Draw object state place.Last)) (loadTest (now (room .entry)) (now (session .entry)) (now (pixels .entry)) (now (masks .entry))) ⌝ }
+    ensures { λ _. ⌜ now (pixels .exit) ≡ callPixels (now (room .entry)) (now (session .entry)) (now (pixels .entry)) (now (masks .entry)) (Make (step.Draw object state place.Last)) (loadTest (now (room .entry)) (now (session .entry)) (now (pixels .entry)) (now (masks .entry))) ⌝ }
+    ensures { λ _. ⌜ now (masks .exit) ≡ callMasks (now (room .entry)) (now (session .entry)) (now (pixels .entry)) (now (masks .entry)) (Make (step.Draw object state place.Last)) (loadTest (now (room .entry)) (now (session .entry)) (now (pixels .entry)) (now (masks .entry))) ⌝ }
 {
     play::calls::act(
         room,
@@ -88,10 +88,10 @@ pub extern "C" fn kg_draw_at(
     a: u32,
     b: u32,
 ) -> u32
-    ensures { λ n. ⌜ n ≡ callNumber (now (room .entry)) (now (session .entry)) (now (pixels .entry)) (now (masks .entry)) (make (step.Draw object state (place.Strip a b))) (loadTest (now (room .entry)) (now (session .entry)) (now (pixels .entry)) (now (masks .entry))) ⌝ }
-    ensures { λ _. ⌜ now (session .exit) ≡ callSession (now (room .entry)) (now (session .entry)) (make (step.Draw object state (place.Strip a b))) (loadTest (now (room .entry)) (now (session .entry)) (now (pixels .entry)) (now (masks .entry))) ⌝ }
-    ensures { λ _. ⌜ now (pixels .exit) ≡ callPixels (now (room .entry)) (now (session .entry)) (now (pixels .entry)) (now (masks .entry)) (make (step.Draw object state (place.Strip a b))) (loadTest (now (room .entry)) (now (session .entry)) (now (pixels .entry)) (now (masks .entry))) ⌝ }
-    ensures { λ _. ⌜ now (masks .exit) ≡ callMasks (now (room .entry)) (now (session .entry)) (now (pixels .entry)) (now (masks .entry)) (make (step.Draw object state (place.Strip a b))) (loadTest (now (room .entry)) (now (session .entry)) (now (pixels .entry)) (now (masks .entry))) ⌝ }
+    ensures { λ n. ⌜ n ≡ callNumber (now (room .entry)) (now (session .entry)) (now (pixels .entry)) (now (masks .entry)) (Make (step.Draw object state (place.Strip a b))) (loadTest (now (room .entry)) (now (session .entry)) (now (pixels .entry)) (now (masks .entry))) ⌝ }
+    ensures { λ _. ⌜ now (session .exit) ≡ callSession (now (room .entry)) (now (session .entry)) (Make (step.Draw object state (place.Strip a b))) (loadTest (now (room .entry)) (now (session .entry)) (now (pixels .entry)) (now (masks .entry))) ⌝ }
+    ensures { λ _. ⌜ now (pixels .exit) ≡ callPixels (now (room .entry)) (now (session .entry)) (now (pixels .entry)) (now (masks .entry)) (Make (step.Draw object state (place.Strip a b))) (loadTest (now (room .entry)) (now (session .entry)) (now (pixels .entry)) (now (masks .entry))) ⌝ }
+    ensures { λ _. ⌜ now (masks .exit) ≡ callMasks (now (room .entry)) (now (session .entry)) (now (pixels .entry)) (now (masks .entry)) (Make (step.Draw object state (place.Strip a b))) (loadTest (now (room .entry)) (now (session .entry)) (now (pixels .entry)) (now (masks .entry))) ⌝ }
 {
     play::calls::act(
         room,
@@ -111,10 +111,10 @@ pub extern "C" fn kg_hide(
     masks: &mut [u8],
     object: u32,
 ) -> u32
-    ensures { λ n. ⌜ n ≡ callNumber (now (room .entry)) (now (session .entry)) (now (pixels .entry)) (now (masks .entry)) (make (step.Hide object)) (loadTest (now (room .entry)) (now (session .entry)) (now (pixels .entry)) (now (masks .entry))) ⌝ }
-    ensures { λ _. ⌜ now (session .exit) ≡ callSession (now (room .entry)) (now (session .entry)) (make (step.Hide object)) (loadTest (now (room .entry)) (now (session .entry)) (now (pixels .entry)) (now (masks .entry))) ⌝ }
-    ensures { λ _. ⌜ now (pixels .exit) ≡ callPixels (now (room .entry)) (now (session .entry)) (now (pixels .entry)) (now (masks .entry)) (make (step.Hide object)) (loadTest (now (room .entry)) (now (session .entry)) (now (pixels .entry)) (now (masks .entry))) ⌝ }
-    ensures { λ _. ⌜ now (masks .exit) ≡ callMasks (now (room .entry)) (now (session .entry)) (now (pixels .entry)) (now (masks .entry)) (make (step.Hide object)) (loadTest (now (room .entry)) (now (session .entry)) (now (pixels .entry)) (now (masks .entry))) ⌝ }
+    ensures { λ n. ⌜ n ≡ callNumber (now (room .entry)) (now (session .entry)) (now (pixels .entry)) (now (masks .entry)) (Make (step.Hide object)) (loadTest (now (room .entry)) (now (session .entry)) (now (pixels .entry)) (now (masks .entry))) ⌝ }
+    ensures { λ _. ⌜ now (session .exit) ≡ callSession (now (room .entry)) (now (session .entry)) (Make (step.Hide object)) (loadTest (now (room .entry)) (now (session .entry)) (now (pixels .entry)) (now (masks .entry))) ⌝ }
+    ensures { λ _. ⌜ now (pixels .exit) ≡ callPixels (now (room .entry)) (now (session .entry)) (now (pixels .entry)) (now (masks .entry)) (Make (step.Hide object)) (loadTest (now (room .entry)) (now (session .entry)) (now (pixels .entry)) (now (masks .entry))) ⌝ }
+    ensures { λ _. ⌜ now (masks .exit) ≡ callMasks (now (room .entry)) (now (session .entry)) (now (pixels .entry)) (now (masks .entry)) (Make (step.Hide object)) (loadTest (now (room .entry)) (now (session .entry)) (now (pixels .entry)) (now (masks .entry))) ⌝ }
 {
     play::calls::act(room, session, pixels, masks, Step::Hide(object))
 }
@@ -127,10 +127,10 @@ pub extern "C" fn kg_take_back(
     pixels: &mut [u8],
     masks: &mut [u8],
 ) -> u32
-    ensures { λ n. ⌜ n ≡ callNumber (now (room .entry)) (now (session .entry)) (now (pixels .entry)) (now (masks .entry)) takeBack (loadTest (now (room .entry)) (now (session .entry)) (now (pixels .entry)) (now (masks .entry))) ⌝ }
-    ensures { λ _. ⌜ now (session .exit) ≡ callSession (now (room .entry)) (now (session .entry)) takeBack (loadTest (now (room .entry)) (now (session .entry)) (now (pixels .entry)) (now (masks .entry))) ⌝ }
-    ensures { λ _. ⌜ now (pixels .exit) ≡ callPixels (now (room .entry)) (now (session .entry)) (now (pixels .entry)) (now (masks .entry)) takeBack (loadTest (now (room .entry)) (now (session .entry)) (now (pixels .entry)) (now (masks .entry))) ⌝ }
-    ensures { λ _. ⌜ now (masks .exit) ≡ callMasks (now (room .entry)) (now (session .entry)) (now (pixels .entry)) (now (masks .entry)) takeBack (loadTest (now (room .entry)) (now (session .entry)) (now (pixels .entry)) (now (masks .entry))) ⌝ }
+    ensures { λ n. ⌜ n ≡ callNumber (now (room .entry)) (now (session .entry)) (now (pixels .entry)) (now (masks .entry)) TakeBack (loadTest (now (room .entry)) (now (session .entry)) (now (pixels .entry)) (now (masks .entry))) ⌝ }
+    ensures { λ _. ⌜ now (session .exit) ≡ callSession (now (room .entry)) (now (session .entry)) TakeBack (loadTest (now (room .entry)) (now (session .entry)) (now (pixels .entry)) (now (masks .entry))) ⌝ }
+    ensures { λ _. ⌜ now (pixels .exit) ≡ callPixels (now (room .entry)) (now (session .entry)) (now (pixels .entry)) (now (masks .entry)) TakeBack (loadTest (now (room .entry)) (now (session .entry)) (now (pixels .entry)) (now (masks .entry))) ⌝ }
+    ensures { λ _. ⌜ now (masks .exit) ≡ callMasks (now (room .entry)) (now (session .entry)) (now (pixels .entry)) (now (masks .entry)) TakeBack (loadTest (now (room .entry)) (now (session .entry)) (now (pixels .entry)) (now (masks .entry))) ⌝ }
 {
     play::calls::take_back(room, session, pixels, masks)
 }

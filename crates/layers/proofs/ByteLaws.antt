@@ -14,20 +14,7 @@ use lib.ListN.{getD}
 use Rattle.grid.specs.Grid.{pick, upd, within, boxed}
 use Rattle.grid.proofs.Upd.{upd-ext, upd-id}
 use Rattle.grid.proofs.Box.{within-yes, within-lo, within-hi, within-cases, boxed-in, boxed-off, boxed-out}
-use Rattle.scene.specs.Painting.{eachFrom}
 use Rattle.layers.specs.Layer.{stripByte}
-
--- crate scene's and crate grid's words for one thing
-each-upd-from : (n : ℕ) (f : ℕ → ℕ → ℕ) (l : List ℕ) → eachFrom n f l ≡ upd (λ i. f (n + i)) l
-unfolding eachFrom upd
-each-upd-from n f [] = refl
-each-upd-from n f (b ∷ bs) =
-    let front : n + 0 ≡ n = omega arith in
-    ap₂ _∷_ (ap (λ (k : ℕ). f k b) (sym front))
-    (each-upd-from (suc n) f bs ∙ upd-ext (λ i. f (suc n + i)) (λ i. f (n + suc i)) bs (λ i h. ap (λ (k : ℕ). f k (getD bs i 0)) (omega arith)))
-
-pub each-upd : (f : ℕ → ℕ → ℕ) (l : List ℕ) → eachFrom 0 f l ≡ upd f l
-each-upd f l = each-upd-from 0 f l ∙ upd-ext (λ i. f (0 + i)) f l (λ i h. ap (λ (k : ℕ). f k (getD l i 0)) (omega arith))
 
 -- ---- the bytes of strip k
 module _ (size : ℕ) (strip : ℕ → ℕ) (k : ℕ) where

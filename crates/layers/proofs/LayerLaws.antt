@@ -16,11 +16,7 @@ use Rattle.scene.proofs.Strips.{Local}
 use Rattle.scene.proofs.Loops.{layered-more, rebuilt-none, rebuilt-alike, rebuilt-next, rebuilt-last}
 use Rattle.layers.specs.Decoded.{entryAt, entriesOf}
 use Rattle.layers.specs.Layer.{stripByte, overByte}
-use Rattle.layers.proofs.ByteLaws.{each-upd, strip-ext, strip-then, strip-same}
-
-pub rebuilt-upd : (lay : Layout) (es : List Entry) (picks : ℕ → Bool) (l : List ℕ) → rebuiltBytes lay es picks l ≡ upd (newByte lay es picks) l
-unfolding rebuiltBytes
-rebuilt-upd lay es picks l = each-upd (newByte lay es picks) l
+use Rattle.layers.proofs.ByteLaws.{strip-ext, strip-then, strip-same}
 
 module _ (lay : Layout) (k : ℕ) (l : List ℕ) where
   -- no entry
@@ -58,20 +54,18 @@ module _ (lay : Layout) (k : ℕ) (l : List ℕ) where
   -- the room's own bytes, painted as f does
   pub fresh-none : (f : ℕ → ℕ → ℕ) (px : List ℕ) → ((i o : ℕ) → i < lay .size → lay .strip i ≡ k → f i o ≡ lay .empty i)
       → px ≡ upd (stripByte (lay .size) (lay .strip) k f) l → px ≡ rebuiltBytes lay [] (λ t. eqb t k) l
-  unfolding stripByte newByte freshByte layered
+  unfolding stripByte rebuiltBytes newByte freshByte layered
   fresh-none f px same so =
       so ∙ upd-ext _ _ l (λ i lt. strip-ext (lay .size) (lay .strip) k f (λ j old. lay .empty j) i (getD l i 0) (same i (getD l i 0)))
-      ∙ sym (rebuilt-upd lay [] (λ t. eqb t k) l)
 
   -- the entries over them
   pub fresh-over : (es : List Entry) (px qx : List ℕ) → px ≡ rebuiltBytes lay [] (λ t. eqb t k) l → qx ≡ upd (overByte lay es k) px
       → qx ≡ rebuiltBytes lay es (λ t. eqb t k) l
-  unfolding overByte stripByte newByte freshByte layered
+  unfolding overByte stripByte rebuiltBytes newByte freshByte layered
   fresh-over es px qx p q =
       upd-then (newByte lay [] (λ t. eqb t k)) (overByte lay es k) (newByte lay es (λ t. eqb t k)) l px qx
       (λ i o. strip-then (lay .size) (lay .strip) k (λ j old. lay .empty j) (λ j old. layered (lay .over j) old es) i o)
-      (p ∙ rebuilt-upd lay [] (λ t. eqb t k) l) q
-      ∙ sym (rebuilt-upd lay es (λ t. eqb t k) l)
+      p q
 
 -- ---- the strips that a test picks, from left to right
 module _ (lay : Layout) (es : List Entry) (t : ℕ → Bool) (l : List ℕ) where

@@ -15,7 +15,9 @@ use Rattle.room.specs.declared.Tested.the-variants.{Right}
 use Rattle.room.proofs.TestLaws.{test-passes, surfaces-long}
 use Rattle.load.specs.Load.{sessionSize, emptied, loadTest}
 use Rattle.scene.specs.Painting.{Room, Surfaces, pixelLayout, maskLayout, painted}
-use Rattle.scene.specs.Session.{Call, make, takeBack, State, Outcome, called, loaded, stateAfter, Demand3}
+use Rattle.scene.specs.declared.Call.{Call}
+use Rattle.scene.specs.declared.Call.the-variants.{Make, TakeBack}
+use Rattle.scene.specs.Session.{State, Outcome, called, loaded, stateAfter, Demand3}
 use Rattle.scene.proofs.Reading.{length-rebuilt}
 use Rattle.scene.proofs.Demand3 as scene
 use Rattle.stored.specs.Bytes.{sessionOf, putMarks, putNewest, dropNewest}
@@ -55,8 +57,8 @@ module _ (s : List ℕ) (r : room.Room) (b : Lent) (accepted : testOf s b ≡ Ri
   back-length l (ok es) = length-set (putMarks (dropNewest l) 0 es) 1 (length es) ∙ length-marks (dropNewest l) 0 es ∙ simp length-set
 
   kept-length : (l : List ℕ) (c : Call) → length (kept s r l c) ≡ length l
-  kept-length l (make st) = step-length l st (planned D l st)
-  kept-length l takeBack = back-length l (plannedBack D l)
+  kept-length l (Make st) = step-length l st (planned D l st)
+  kept-length l TakeBack = back-length l (plannedBack D l)
 
   over-length : (xs d : List ℕ) → length xs ≤ length d → length (over xs d) ≡ length d
   unfolding over
@@ -97,8 +99,8 @@ module _ (s : List ℕ) (r : room.Room) (b : Lent) (accepted : testOf s b ≡ Ri
       (ap (λ (t : Surfaces). length (t .masks)) q ∙ length-rebuilt (maskLayout D) (p .0) (λ k. true) (b .masks))
 
   call-state : (x : Lent) (c : Call) → testOf s x ≡ Right r → 450 ≤ length (x .session) → held (afterCall s x c) ≡ called D (held x) c .after
-  call-state x (make st) e le = rw e (λ i. record { session = sym (make-called D (x .session) le (held x .surfaces) st .1) i; surfaces = called D (held x) (make st) .after .surfaces })
-  call-state x takeBack e le = rw e (λ i. record { session = sym (back-called D (x .session) le (held x .surfaces) .1) i; surfaces = called D (held x) takeBack .after .surfaces })
+  call-state x (Make st) e le = rw e (λ i. record { session = sym (make-called D (x .session) le (held x .surfaces) st .1) i; surfaces = called D (held x) (Make st) .after .surfaces })
+  call-state x TakeBack e le = rw e (λ i. record { session = sym (back-called D (x .session) le (held x .surfaces) .1) i; surfaces = called D (held x) TakeBack .after .surfaces })
 
   pub reached : (cs : List Call) → Reached cs
   unfolding bytesAfter stateAfter

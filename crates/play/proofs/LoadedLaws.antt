@@ -22,7 +22,6 @@ use Rattle.scene.specs.Painting.{Room, Surfaces, pixelLayout, maskLayout, rebui
 use Rattle.scene.specs.Session.{State, loaded}
 use Rattle.stored.specs.Bytes.{sessionOf, marksFrom, allPlaced}
 use Rattle.layers.specs.Decoded.{decoded}
-use Rattle.layers.proofs.LayerLaws.{rebuilt-upd}
 use Rattle.play.specs.Calls.{stateOf}
 
 -- a box that is the whole grid
@@ -49,22 +48,20 @@ module _ (s : List ℕ) (r : room.Room) (sound : Sound s r) where
   wide = omega (arith, sound .whole)
 
   pixels-loaded : (l : List ℕ) → loadedPixels s r l ≡ rebuiltBytes (pixelLayout D) [] (λ k. true) l
-  unfolding loadedPixels pixelLayout decoded newByte freshByte layered
+  unfolding loadedPixels pixelLayout decoded rebuiltBytes newByte freshByte layered
   pixels-loaded l =
       ap (λ (w : ℕ). upd (boxed w 0 0 w (r .height) (λ x y o. background s r x y)) l) wide
       ∙ (upd-ext _ _ l
       (λ i lt. full-box (8 * strips r) (r .height) (background s r) i (getD l i 0) (omega (arith, sound .narrowest, wide))
       ∙ ap (λ (b : Bool). cond b (background s r (i % (8 * strips r)) (i / (8 * strips r))) (getD l i 0)) (sym (and-true (ltb i (r .height * (8 * strips r)))))))
-      ∙ sym (rebuilt-upd (pixelLayout D) [] (λ k. true) l)
 
   masks-loaded : (l : List ℕ) → loadedMasks s r l ≡ rebuiltBytes (maskLayout D) [] (λ k. true) l
-  unfolding loadedMasks maskLayout decoded newByte freshByte layered
+  unfolding loadedMasks maskLayout decoded rebuiltBytes newByte freshByte layered
   masks-loaded l =
       upd-ext _ _ l
       (λ i lt. full-box (strips r) (r .planes * r .height) (λ k q. mask s r (q / r .height + 1) k (q % r .height)) i (getD l i 0) (omega (arith, sound .narrowest, wide))
       ∙ ap (λ (b : Bool). cond b (mask s r (i / strips r / r .height + 1) (i % strips r) (i / strips r % r .height)) (getD l i 0))
       (sym (and-true (ltb i (r .planes * r .height * strips r)))))
-      ∙ sym (rebuilt-upd (maskLayout D) [] (λ k. true) l)
 
   empty-session : (l : List ℕ) → sessionOf D (emptied l) ≡ record { history = []; shown = [] }
   unfolding sessionOf emptied over marksFrom allPlaced

@@ -12,14 +12,15 @@ use Rattle.room.specs.Test.{strips}
 use Rattle.room.specs.declared.Room as room
 use Rattle.scene.specs.Painting.{Room, Surfaces, pixelLayout, maskLayout, rebuiltBytes}
 use Rattle.scene.specs.Steps.{touches, applied, bare, replay}
-use Rattle.scene.specs.Session.{make, made, sceneOf}
+use Rattle.scene.specs.declared.Call.the-variants.{Make}
+use Rattle.scene.specs.Session.{made, sceneOf}
 use Rattle.scene.specs.declared.Entry.{Entry}
 use Rattle.scene.specs.declared.Step.{Step}
 use Rattle.scene.proofs.Loops.{pixel-strips, mask-strips}
 use Rattle.stored.specs.Bytes.{All, stepsOf, sessionOf, readable, putShown, putNewest, entries}
 use Rattle.replay.specs.Replay.{no, ok, planOf, sceneAfter}
-use Rattle.session.specs.Plans.{numberOf, planned, settledOf, stepKept, flagged}
-use Rattle.replay.specs.Tables.{Knows, tabled}
+use Rattle.session.specs.Plans.{numberOf, planned, validShown, stepKept, flagged}
+use Rattle.replay.specs.Tables.{TablesAgree, roomOfTables}
 use Rattle.stored.specs.declared.Shown.{Shown}
 use Rattle.session.proofs.Caller.{planned-known, act-called, step-list, step-touches}
 use Rattle.session.proofs.PlanLaws.{accepted-plan}
@@ -62,9 +63,9 @@ module _ (s : List ℕ) (r : room.Room) where
       }
 
 -- a plan that is accepted was made on a session that is right
-module _ (T : Room) (l : List ℕ) (st : Step) (before after : Shown) (p : planOf before ≡ settledOf T l) (q : planOf after ≡ planned T l st) where
+module _ (T : Room) (l : List ℕ) (st : Step) (before after : Shown) (p : planOf before ≡ validShown T l) (q : planOf after ≡ planned T l st) where
   pub before-zero : after .refusal ≡ 0 → before .refusal ≡ 0
-  unfolding settledOf
+  unfolding validShown
   before-zero y = go (eqb (before .refusal) 0) refl (p ∙ rw (accepted-plan T l st after q y .0))
     where
       go : (b : Bool) → eqb (before .refusal) 0 ≡ b → cond b (ok (entries before)) (no (before .refusal)) ≡ ok (sessionOf T l .shown) → before .refusal ≡ 0
@@ -74,8 +75,8 @@ module _ (T : Room) (l : List ℕ) (st : Step) (before after : Shown) (p : planO
 -- ---- the step
 
 module _ (s : List ℕ) (r : room.Room) (t v l px mk : List ℕ) (st : Step) (long : 450 ≤ length l)
-    (K : Knows (decoded s r) t v (sizeOf r) (st ∷ readable l)) (before after : Shown)
-    (p : planOf before ≡ settledOf (tabled t v (sizeOf r)) l) (q : planOf after ≡ planned (tabled t v (sizeOf r)) l st) where
+    (K : TablesAgree (decoded s r) t v (sizeOf r) (st ∷ readable l)) (before after : Shown)
+    (p : planOf before ≡ validShown (roomOfTables t v (sizeOf r)) l) (q : planOf after ≡ planned (roomOfTables t v (sizeOf r)) l st) where
   abbrev D : Room
   D = decoded s r
 
@@ -85,35 +86,35 @@ module _ (s : List ℕ) (r : room.Room) (t v l px mk : List ℕ) (st : Step) (lo
   told : planned D l st ≡ planOf after
   told = planned-known D t v (sizeOf r) l st K ∙ sym q
 
-  pub make-number : after .refusal ≡ outcome s r l px mk (make st) .number
+  pub make-number : after .refusal ≡ outcome s r l px mk (Make st) .number
   make-number = sym (act-called D t v (sizeOf r) l long lent st K .0 ∙ ap numberOf (sym q) ∙ plan-number after)
 
-  pub refused-session : (after .refusal ≡ 0 → ⊥) → l ≡ kept s r l (make st)
+  pub refused-session : (after .refusal ≡ 0 → ⊥) → l ≡ kept s r l (Make st)
   refused-session f = sym (ap (stepKept l st) (told ∙ plan-no after f))
 
-  refused-after : (after .refusal ≡ 0 → ⊥) → outcome s r l px mk (make st) .after ≡ record { session = sessionOf D l; surfaces = lent }
+  refused-after : (after .refusal ≡ 0 → ⊥) → outcome s r l px mk (Make st) .after ≡ record { session = sessionOf D l; surfaces = lent }
   refused-after f = called-refused D _ st (λ e. f (make-number ∙ e))
 
-  pub refused-pixels : (after .refusal ≡ 0 → ⊥) → px ≡ outcome s r l px mk (make st) .after .surfaces .pixels
+  pub refused-pixels : (after .refusal ≡ 0 → ⊥) → px ≡ outcome s r l px mk (Make st) .after .surfaces .pixels
   refused-pixels f = sym (ap (λ b. b .surfaces .pixels) (refused-after f))
 
-  pub refused-masks : (after .refusal ≡ 0 → ⊥) → mk ≡ outcome s r l px mk (make st) .after .surfaces .masks
+  pub refused-masks : (after .refusal ≡ 0 → ⊥) → mk ≡ outcome s r l px mk (Make st) .after .surfaces .masks
   refused-masks f = sym (ap (λ b. b .surfaces .masks) (refused-after f))
 
   module _ (y : after .refusal ≡ 0) where
     z : before .refusal ≡ 0
-    z = before-zero (tabled t v (sizeOf r)) l st before after p q y
+    z = before-zero (roomOfTables t v (sizeOf r)) l st before after p q y
 
-    pub made-session : putShown (putNewest l st) (entries after) ≡ kept s r l (make st)
+    pub made-session : putShown (putNewest l st) (entries after) ≡ kept s r l (Make st)
     made-session = sym (ap (stepKept l st) (told ∙ plan-ok after y))
 
-    made-after : outcome s r l px mk (make st) .after ≡ made D (record { session = sessionOf D l; surfaces = lent }) st
+    made-after : outcome s r l px mk (Make st) .after ≡ made D (record { session = sessionOf D l; surfaces = lent }) st
     made-after = called-made D _ st (sym make-number ∙ y)
 
     shown-is : entries after ≡ applied D (sceneOf D (sessionOf D l)) st .shown
     shown-is = step-list D t v (sizeOf r) l (st ∷ readable l) K st before after p z q y
 
-    touched-are : (k : ℕ) → touches (tabled t v (sizeOf r)) (sceneAfter (tabled t v (sizeOf r)) (stepsOf l) (entries before)) st k
+    touched-are : (k : ℕ) → touches (roomOfTables t v (sizeOf r)) (sceneAfter (roomOfTables t v (sizeOf r)) (stepsOf l) (entries before)) st k
         ≡ touches D (sceneOf D (sessionOf D l)) st k
     touched-are k = sym (step-touches D t v (sizeOf r) l (st ∷ readable l) K st before after p z k)
 
@@ -127,8 +128,8 @@ module _ (s : List ℕ) (r : room.Room) (t v l px mk : List ℕ) (st : Step) (lo
     module _ (flat zeros : List ℕ) (n : ℕ) (same : entriesOf flat n ≡ entries after) (room : 128 ≤ length zeros) (few : strips r ≤ 128) where
       pub made-pixels : (out : List ℕ)
           → out ≡ rebuiltBytes (pixelLayout D) (entriesOf flat n)
-          (λ k. not (eqb (getD (flagged (touches (tabled t v (sizeOf r)) (sceneAfter (tabled t v (sizeOf r)) (stepsOf l) (entries before)) st) 128 zeros) k 0) 0)) px
-          → out ≡ outcome s r l px mk (make st) .after .surfaces .pixels
+          (λ k. not (eqb (getD (flagged (touches (roomOfTables t v (sizeOf r)) (sceneAfter (roomOfTables t v (sizeOf r)) (stepsOf l) (entries before)) st) 128 zeros) k 0) 0)) px
+          → out ≡ outcome s r l px mk (Make st) .after .surfaces .pixels
       unfolding made
       made-pixels out e =
           e
@@ -137,8 +138,8 @@ module _ (s : List ℕ) (r : room.Room) (t v l px mk : List ℕ) (st : Step) (lo
 
       pub made-masks : (out : List ℕ)
           → out ≡ rebuiltBytes (maskLayout D) (entriesOf flat n)
-          (λ k. not (eqb (getD (flagged (touches (tabled t v (sizeOf r)) (sceneAfter (tabled t v (sizeOf r)) (stepsOf l) (entries before)) st) 128 zeros) k 0) 0)) mk
-          → out ≡ outcome s r l px mk (make st) .after .surfaces .masks
+          (λ k. not (eqb (getD (flagged (touches (roomOfTables t v (sizeOf r)) (sceneAfter (roomOfTables t v (sizeOf r)) (stepsOf l) (entries before)) st) 128 zeros) k 0) 0)) mk
+          → out ≡ outcome s r l px mk (Make st) .after .surfaces .masks
       unfolding made
       made-masks out e =
           e

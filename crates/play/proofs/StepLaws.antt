@@ -7,14 +7,16 @@ use native.Mathlib.Omega.{arith}
 use borrow.Author.Tests.{eqb-true, eq-eqb, ne-eqb, lt-ltb}
 use lib.Dec.{eqb, ltb, leb}
 use lib.ListN.{length, getD}
-use Rattle.scene.specs.Painting.{Room, Layout, rebuiltBytes, eachFrom}
+use Rattle.grid.specs.Grid.{upd}
+use Rattle.grid.proofs.Upd.{getD-upd}
+use Rattle.scene.specs.Painting.{Room, Layout, rebuiltBytes}
 use Rattle.scene.specs.Steps.{Scene, allowed, applied, adds, removes, without, entryOf, refusal, bare, replay, replays}
-use Rattle.scene.specs.Session.{make, State, called, tried, made, refused, rightFor}
+use Rattle.scene.specs.declared.Call.the-variants.{Make}
+use Rattle.scene.specs.Session.{State, called, tried, made, refused, rightFor}
 use Rattle.scene.specs.declared.Entry.{Entry}
 use Rattle.scene.specs.declared.Step.{Step}
 use Rattle.scene.specs.declared.Step.the-variants.{Draw, Hide}
 use Rattle.scene.proofs.Loops.{rebuilt-alike}
-use Rattle.scene.proofs.Reading.{each-at}
 use Rattle.stored.specs.Bytes.{All, entries}
 use Rattle.replay.specs.Replay.{no, ok, planOf}
 use Rattle.session.specs.Plans.{numberOf, flag, flagged}
@@ -29,22 +31,22 @@ module _ (room : Room) (b : State) (st : Step) where
   nine : _≡_ {A = ℕ} 9 0 → ⊥
   nine e = omega arith
 
-  pub called-refused : (called room b (make st) .number ≡ 0 → ⊥) → called room b (make st) .after ≡ b
+  pub called-refused : (called room b (Make st) .number ≡ 0 → ⊥) → called room b (Make st) .after ≡ b
   unfolding called tried
   called-refused = go (rightFor room (b .session))
     where
       inner : (k : ℕ) → (k ≡ 0 → ⊥) → cond (eqb k 0) (made room b st) b ≡ b
       inner k f = rw (ne-eqb k 0 f)
 
-      go : (t : Bool) → (cond t (tried room b (make st)) (refused 9 b) .number ≡ 0 → ⊥) → cond t (tried room b (make st)) (refused 9 b) .after ≡ b
+      go : (t : Bool) → (cond t (tried room b (Make st)) (refused 9 b) .number ≡ 0 → ⊥) → cond t (tried room b (Make st)) (refused 9 b) .after ≡ b
       go true f = inner _ f
       go false f = refl
 
-  pub called-made : called room b (make st) .number ≡ 0 → called room b (make st) .after ≡ made room b st
+  pub called-made : called room b (Make st) .number ≡ 0 → called room b (Make st) .after ≡ made room b st
   unfolding called tried
   called-made = go (rightFor room (b .session))
     where
-      go : (t : Bool) → cond t (tried room b (make st)) (refused 9 b) .number ≡ 0 → cond t (tried room b (make st)) (refused 9 b) .after ≡ made room b st
+      go : (t : Bool) → cond t (tried room b (Make st)) (refused 9 b) .number ≡ 0 → cond t (tried room b (Make st)) (refused 9 b) .after ≡ made room b st
       go true e = rw (eq-eqb _ 0 e)
       go false e = absurd (nine e)
 
@@ -71,8 +73,8 @@ flag-is false = refl
 pub flag-at : (f : ℕ → Bool) (n : ℕ) (l : List ℕ) (k : ℕ) → k < n → n ≤ length l → not (eqb (getD (flagged f n l) k 0) 0) ≡ f k
 unfolding flagged
 flag-at f n l k lt le =
-    let at : getD (eachFrom 0 (λ i old. cond (ltb i n) (flag (f i)) old) l) k 0 ≡ cond (ltb k n) (flag (f k)) (getD l k 0) =
-    each-at (λ i old. cond (ltb i n) (flag (f i)) old) l k (omega arith) in
+    let at : getD (upd (λ i old. cond (ltb i n) (flag (f i)) old) l) k 0 ≡ cond (ltb k n) (flag (f k)) (getD l k 0) =
+    getD-upd (λ i old. cond (ltb i n) (flag (f i)) old) l k (omega arith) in
     rw (at, lt-ltb k n lt) (flag-is (f k))
 
 -- a surface rebuilt by the touched bytes and a list of numbers is the surface rebuilt by the definitions

@@ -3,7 +3,7 @@ use Prim.Native.Nat.{ℕ}
 use mathlib.Core.List.{List, [], _∷_}
 use Rattle.room.specs.declared.Tested.{Tested}
 use Rattle.load.specs.Load.{loadTest, sessionAfter, pixelsAfter, masksAfter}
-use Rattle.scene.specs.Session.{Call}
+use Rattle.scene.specs.declared.Call.{Call}
 use Rattle.play.specs.Calls.{callNumber, callSession, callPixels, callMasks}
 
 -- the lent bytes: a session, pixels and masks

@@ -1,7 +1,7 @@
 // The calls on any bytes: the room's own refusals first, 1 to 8 with 4, then what the step or the take-back comes to.
 ghost use mathlib.Core.Path.{_≡_};
 ghost use Rattle.load.specs.Load.{loadTest};
-ghost use Rattle.scene.specs.Session.{make, takeBack};
+ghost use Rattle.scene.specs.declared.Call.the-variants.{Make, TakeBack};
 ghost use Rattle.play.specs.Calls.{callNumber, callSession, callPixels, callMasks};
 use crate::step::make_step;
 use crate::undo::undo_step;
@@ -13,10 +13,10 @@ use scene::Step;
 
 // A draw or a hide: its number.
 pub fn act(room: &[u8], session: &mut [u8], pixels: &mut [u8], masks: &mut [u8], step: Step) -> u32
-    ensures { λ n. ⌜ n ≡ callNumber (now (room .entry)) (now (session .entry)) (now (pixels .entry)) (now (masks .entry)) (make step) (loadTest (now (room .entry)) (now (session .entry)) (now (pixels .entry)) (now (masks .entry))) ⌝ }
-    ensures { λ _. ⌜ now (session .exit) ≡ callSession (now (room .entry)) (now (session .entry)) (make step) (loadTest (now (room .entry)) (now (session .entry)) (now (pixels .entry)) (now (masks .entry))) ⌝ }
-    ensures { λ _. ⌜ now (pixels .exit) ≡ callPixels (now (room .entry)) (now (session .entry)) (now (pixels .entry)) (now (masks .entry)) (make step) (loadTest (now (room .entry)) (now (session .entry)) (now (pixels .entry)) (now (masks .entry))) ⌝ }
-    ensures { λ _. ⌜ now (masks .exit) ≡ callMasks (now (room .entry)) (now (session .entry)) (now (pixels .entry)) (now (masks .entry)) (make step) (loadTest (now (room .entry)) (now (session .entry)) (now (pixels .entry)) (now (masks .entry))) ⌝ }
+    ensures { λ n. ⌜ n ≡ callNumber (now (room .entry)) (now (session .entry)) (now (pixels .entry)) (now (masks .entry)) (Make step) (loadTest (now (room .entry)) (now (session .entry)) (now (pixels .entry)) (now (masks .entry))) ⌝ }
+    ensures { λ _. ⌜ now (session .exit) ≡ callSession (now (room .entry)) (now (session .entry)) (Make step) (loadTest (now (room .entry)) (now (session .entry)) (now (pixels .entry)) (now (masks .entry))) ⌝ }
+    ensures { λ _. ⌜ now (pixels .exit) ≡ callPixels (now (room .entry)) (now (session .entry)) (now (pixels .entry)) (now (masks .entry)) (Make step) (loadTest (now (room .entry)) (now (session .entry)) (now (pixels .entry)) (now (masks .entry))) ⌝ }
+    ensures { λ _. ⌜ now (masks .exit) ≡ callMasks (now (room .entry)) (now (session .entry)) (now (pixels .entry)) (now (masks .entry)) (Make step) (loadTest (now (room .entry)) (now (session .entry)) (now (pixels .entry)) (now (masks .entry))) ⌝ }
 {
     let lent = surfaces_lent(450, session.len(), pixels.len(), masks.len());
     match test_room(room, lent) {
@@ -31,10 +31,10 @@ pub fn act(room: &[u8], session: &mut [u8], pixels: &mut [u8], masks: &mut [u8],
 
 // A take-back: its number.
 pub fn take_back(room: &[u8], session: &mut [u8], pixels: &mut [u8], masks: &mut [u8]) -> u32
-    ensures { λ n. ⌜ n ≡ callNumber (now (room .entry)) (now (session .entry)) (now (pixels .entry)) (now (masks .entry)) takeBack (loadTest (now (room .entry)) (now (session .entry)) (now (pixels .entry)) (now (masks .entry))) ⌝ }
-    ensures { λ _. ⌜ now (session .exit) ≡ callSession (now (room .entry)) (now (session .entry)) takeBack (loadTest (now (room .entry)) (now (session .entry)) (now (pixels .entry)) (now (masks .entry))) ⌝ }
-    ensures { λ _. ⌜ now (pixels .exit) ≡ callPixels (now (room .entry)) (now (session .entry)) (now (pixels .entry)) (now (masks .entry)) takeBack (loadTest (now (room .entry)) (now (session .entry)) (now (pixels .entry)) (now (masks .entry))) ⌝ }
-    ensures { λ _. ⌜ now (masks .exit) ≡ callMasks (now (room .entry)) (now (session .entry)) (now (pixels .entry)) (now (masks .entry)) takeBack (loadTest (now (room .entry)) (now (session .entry)) (now (pixels .entry)) (now (masks .entry))) ⌝ }
+    ensures { λ n. ⌜ n ≡ callNumber (now (room .entry)) (now (session .entry)) (now (pixels .entry)) (now (masks .entry)) TakeBack (loadTest (now (room .entry)) (now (session .entry)) (now (pixels .entry)) (now (masks .entry))) ⌝ }
+    ensures { λ _. ⌜ now (session .exit) ≡ callSession (now (room .entry)) (now (session .entry)) TakeBack (loadTest (now (room .entry)) (now (session .entry)) (now (pixels .entry)) (now (masks .entry))) ⌝ }
+    ensures { λ _. ⌜ now (pixels .exit) ≡ callPixels (now (room .entry)) (now (session .entry)) (now (pixels .entry)) (now (masks .entry)) TakeBack (loadTest (now (room .entry)) (now (session .entry)) (now (pixels .entry)) (now (masks .entry))) ⌝ }
+    ensures { λ _. ⌜ now (masks .exit) ≡ callMasks (now (room .entry)) (now (session .entry)) (now (pixels .entry)) (now (masks .entry)) TakeBack (loadTest (now (room .entry)) (now (session .entry)) (now (pixels .entry)) (now (masks .entry))) ⌝ }
 {
     let lent = surfaces_lent(450, session.len(), pixels.len(), masks.len());
     match test_room(room, lent) {

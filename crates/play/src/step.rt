@@ -5,14 +5,14 @@ ghost use lib.ListN.{length};
 ghost use Rattle.room.specs.Test.{strips};
 ghost use Rattle.image.specs.Image.{objectCount};
 ghost use Rattle.layers.specs.Ready.{Ready};
-ghost use Rattle.scene.specs.Session.{make};
+ghost use Rattle.scene.specs.declared.Call.the-variants.{Make};
 ghost use Rattle.play.specs.Calls.{outcome, kept};
 use crate::flat::flatten;
 use repaint::rebuild;
 use room::Room;
 use scene::Step;
 use session::plan::plan_on;
-use session::plan::settled;
+use session::plan::valid_shown;
 use session::touch::touched;
 use stored::bytes::count;
 use stored::bytes::store_shown;
@@ -32,15 +32,15 @@ pub fn make_step(
 ) -> u32
     requires { ⌜ Ready (now room) r (now table) × (r .objects ≡ objectCount (now room)) × (450 ≤ length (now session)) ⌝ }
     requires { ⌜ (r .width * r .height ≤ length (now pixels)) × (strips r * (r .planes * r .height) ≤ length (now masks)) ⌝ }
-    ensures { λ n. ⌜ n ≡ outcome (now (room .entry)) r (now (session .entry)) (now (pixels .entry)) (now (masks .entry)) (make step) .number ⌝ }
-    ensures { λ _. ⌜ now (session .exit) ≡ kept (now (room .entry)) r (now (session .entry)) (make step) ⌝ }
-    ensures { λ _. ⌜ now (pixels .exit) ≡ outcome (now (room .entry)) r (now (session .entry)) (now (pixels .entry)) (now (masks .entry)) (make step) .after .surfaces .pixels ⌝ }
-    ensures { λ _. ⌜ now (masks .exit) ≡ outcome (now (room .entry)) r (now (session .entry)) (now (pixels .entry)) (now (masks .entry)) (make step) .after .surfaces .masks ⌝ }
+    ensures { λ n. ⌜ n ≡ outcome (now (room .entry)) r (now (session .entry)) (now (pixels .entry)) (now (masks .entry)) (Make step) .number ⌝ }
+    ensures { λ _. ⌜ now (session .exit) ≡ kept (now (room .entry)) r (now (session .entry)) (Make step) ⌝ }
+    ensures { λ _. ⌜ now (pixels .exit) ≡ outcome (now (room .entry)) r (now (session .entry)) (now (pixels .entry)) (now (masks .entry)) (Make step) .after .surfaces .pixels ⌝ }
+    ensures { λ _. ⌜ now (masks .exit) ≡ outcome (now (room .entry)) r (now (session .entry)) (now (pixels .entry)) (now (masks .entry)) (Make step) .after .surfaces .masks ⌝ }
 {
     let mut verdicts = [0u8; 1290];
     judge(room, r, table, &session[..], step, &mut verdicts);
     let size = size_of(r);
-    let before = settled(&session[..], table, &verdicts, size);
+    let before = valid_shown(&session[..], table, &verdicts, size);
     let after = plan_on(&session[..], table, &verdicts, size, before, step);
     let refusal = after.refusal;
     if refusal != 0 {

@@ -5,7 +5,7 @@ ghost use lib.ListN.{length};
 ghost use Rattle.room.specs.Test.{strips};
 ghost use Rattle.image.specs.Image.{objectCount};
 ghost use Rattle.layers.specs.Ready.{Ready};
-ghost use Rattle.scene.specs.Session.{takeBack};
+ghost use Rattle.scene.specs.declared.Call.the-variants.{TakeBack};
 ghost use Rattle.play.specs.Calls.{outcome, kept};
 use crate::flat::flatten;
 use repaint::rebuild;
@@ -30,10 +30,10 @@ pub fn undo_step(
 ) -> u32
     requires { ⌜ Ready (now room) r (now table) × (r .objects ≡ objectCount (now room)) × (450 ≤ length (now session)) ⌝ }
     requires { ⌜ (r .width * r .height ≤ length (now pixels)) × (strips r * (r .planes * r .height) ≤ length (now masks)) ⌝ }
-    ensures { λ n. ⌜ n ≡ outcome (now (room .entry)) r (now (session .entry)) (now (pixels .entry)) (now (masks .entry)) takeBack .number ⌝ }
-    ensures { λ _. ⌜ now (session .exit) ≡ kept (now (room .entry)) r (now (session .entry)) takeBack ⌝ }
-    ensures { λ _. ⌜ now (pixels .exit) ≡ outcome (now (room .entry)) r (now (session .entry)) (now (pixels .entry)) (now (masks .entry)) takeBack .after .surfaces .pixels ⌝ }
-    ensures { λ _. ⌜ now (masks .exit) ≡ outcome (now (room .entry)) r (now (session .entry)) (now (pixels .entry)) (now (masks .entry)) takeBack .after .surfaces .masks ⌝ }
+    ensures { λ n. ⌜ n ≡ outcome (now (room .entry)) r (now (session .entry)) (now (pixels .entry)) (now (masks .entry)) TakeBack .number ⌝ }
+    ensures { λ _. ⌜ now (session .exit) ≡ kept (now (room .entry)) r (now (session .entry)) TakeBack ⌝ }
+    ensures { λ _. ⌜ now (pixels .exit) ≡ outcome (now (room .entry)) r (now (session .entry)) (now (pixels .entry)) (now (masks .entry)) TakeBack .after .surfaces .pixels ⌝ }
+    ensures { λ _. ⌜ now (masks .exit) ≡ outcome (now (room .entry)) r (now (session .entry)) (now (pixels .entry)) (now (masks .entry)) TakeBack .after .surfaces .masks ⌝ }
 {
     let mut verdicts = [0u8; 1290];
     judge_history(room, r, table, &session[..], &mut verdicts);

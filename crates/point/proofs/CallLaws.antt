@@ -16,11 +16,11 @@ use Rattle.scene.specs.Session.{rightFor, sceneOf}
 use Rattle.scene.specs.declared.Entry.{Entry}
 use Rattle.stored.specs.Bytes.{sessionOf, stepsOf, readable, entries}
 use Rattle.replay.specs.Replay.{Plan, no, ok, planOf, sceneAfter}
-use Rattle.session.specs.Plans.{settledOf}
-use Rattle.replay.specs.Tables.{Knows, tabled}
+use Rattle.session.specs.Plans.{validShown}
+use Rattle.replay.specs.Tables.{TablesAgree, roomOfTables}
 use Rattle.stored.specs.declared.Shown.{Shown}
 use Rattle.replay.specs.declared.Size.{Size}
-use Rattle.session.proofs.Caller.{settled-known}
+use Rattle.session.proofs.Caller.{valid-known}
 use Rattle.replay.proofs.JudgedLaws.{plan-means}
 use Rattle.layers.specs.Decoded.{decoded}
 use Rattle.verdict.specs.Size.{sizeOf}
@@ -44,14 +44,14 @@ pub found-some : (o : ℕ) → (o ≡ 0 → ⊥) → Object o ≡ found o
 found-some zero f = absurd (f refl)
 found-some (suc o) f = refl
 
-module _ (s : List ℕ) (r : room.Room) (t v l flags : List ℕ) (x y : ℕ) (K : Knows (decoded s r) t v (sizeOf r) (readable l)) (shown : Shown)
-    (q : planOf shown ≡ settledOf (tabled t v (sizeOf r)) l) where
+module _ (s : List ℕ) (r : room.Room) (t v l flags : List ℕ) (x y : ℕ) (K : TablesAgree (decoded s r) t v (sizeOf r) (readable l)) (shown : Shown)
+    (q : planOf shown ≡ validShown (roomOfTables t v (sizeOf r)) l) where
   abbrev D : Room
   D = decoded s r
 
   means : (eqb (shown .refusal) 0 ≡ rightFor D (sessionOf D l)) × (shown .refusal ≡ 0 → entries shown ≡ sessionOf D l .shown)
-  unfolding settledOf
-  means = plan-means shown (rightFor D (sessionOf D l)) 9 (sessionOf D l .shown) (q ∙ sym (settled-known D t v (sizeOf r) l K))
+  unfolding validShown
+  means = plan-means shown (rightFor D (sessionOf D l)) 9 (sessionOf D l .shown) (q ∙ sym (valid-known D t v (sizeOf r) l K))
 
   pub asked-wrong : (shown .refusal ≡ 0 → ⊥) → Refused 9 ≡ asked s r l flags x y
   unfolding asked

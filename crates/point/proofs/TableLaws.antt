@@ -22,7 +22,7 @@ use Rattle.scene.specs.declared.Step.the-variants.{Draw, Hide}
 use Rattle.replay.specs.declared.Size.{Size}
 use Rattle.replay.specs.declared.Spot as session
 use Rattle.replay.specs.Replay.{IsAt, sceneAfter}
-use Rattle.replay.specs.Tables.{cellOf, tabled}
+use Rattle.replay.specs.Tables.{cellOf, roomOfTables}
 use Rattle.replay.proofs.TablesLaws.{cell-row}
 use Rattle.climb.specs.Objects.{Objects}
 use Rattle.climb.specs.Climb.{stateOf, lets, isOpen}
@@ -96,13 +96,13 @@ module _ (A B : Room) where
 
 module _ (t : List ℕ) (size : Size) (h : List Step) (x y o : ℕ) (one : 1 ≤ o) (le : o ≤ size .count) where
   abbrev T : Room
-  T = tabled t [] size
+  T = roomOfTables t [] size
 
   row : (k : ℕ) → getD t (8 * o + k) 0 ≡ cellOf t (size .count) o k
   row k = cell-row t (size .count) o k (λ e. omega arith) le
 
   place-x : after T h o .x ≡ left (boxesOf t (size .count)) (sceneAfter T h []) o
-  unfolding left bare tabled
+  unfolding left bare roomOfTables
   place-x = go (after T h o .set) refl
     where
       go : (b : Bool) → after T h o .set ≡ b → after T h o .x ≡ cond b (after T h o .x) (getD t (8 * o + 1) 0)
@@ -110,7 +110,7 @@ module _ (t : List ℕ) (size : Size) (h : List Step) (x y o : ℕ) (one : 1 ≤
       go false e = ap (λ (p : Spot). p .x) (at-home T h o e) ∙ sym (row 1)
 
   place-y : after T h o .y ≡ top (boxesOf t (size .count)) (sceneAfter T h []) o
-  unfolding top bare tabled
+  unfolding top bare roomOfTables
   place-y = go (after T h o .set) refl
     where
       go : (b : Bool) → after T h o .set ≡ b → after T h o .y ≡ cond b (after T h o .y) (getD t (8 * o + 2) 0)
@@ -230,17 +230,17 @@ module _ (s t₀ t : List ℕ) (filled : Filled s (boxRow s) t₀ t) (size : Siz
       sc = sceneAfter room h es
 
       abbrev scT : Scene
-      scT = sceneAfter (tabled t [] size) h []
+      scT = sceneAfter (roomOfTables t [] size) h []
 
       module _ (o : ℕ) (one : 1 ≤ o) (le : o ≤ size .count) where
-        both : Same (after room h o) (after (tabled t [] size) h o)
-        both = same-after room (tabled t [] size) h o
+        both : Same (after room h o) (after (roomOfTables t [] size) h o)
+        both = same-after room (roomOfTables t [] size) h o
 
         left-is : left S sc o ≡ left B scT o
         unfolding left
         left-is = go (after room h o .set) refl
           where
-            go : (b : Bool) → after room h o .set ≡ b → cond b (after room h o .x) (S .x o) ≡ cond (after (tabled t [] size) h o .set) (after (tabled t [] size) h o .x) (B .x o)
+            go : (b : Bool) → after room h o .set ≡ b → cond b (after room h o .x) (S .x o) ≡ cond (after (roomOfTables t [] size) h o .set) (after (roomOfTables t [] size) h o .x) (B .x o)
             go true e = rw (← (sym e ∙ both .0)) (ap (λ (p : Spot). p .x) (both .1 e))
             go false e = rw (← (sym e ∙ both .0)) (x-is o one le)
 
@@ -248,7 +248,7 @@ module _ (s t₀ t : List ℕ) (filled : Filled s (boxRow s) t₀ t) (size : Siz
         unfolding top
         top-is = go (after room h o .set) refl
           where
-            go : (b : Bool) → after room h o .set ≡ b → cond b (after room h o .y) (S .y o) ≡ cond (after (tabled t [] size) h o .set) (after (tabled t [] size) h o .y) (B .y o)
+            go : (b : Bool) → after room h o .set ≡ b → cond b (after room h o .y) (S .y o) ≡ cond (after (roomOfTables t [] size) h o .set) (after (roomOfTables t [] size) h o .y) (B .y o)
             go true e = rw (← (sym e ∙ both .0)) (ap (λ (p : Spot). p .y) (both .1 e))
             go false e = rw (← (sym e ∙ both .0)) (y-is o one le)
 

@@ -8,7 +8,7 @@ use Rattle.block.specs.declared.Found.{Found}
 use Rattle.image.specs.Image.{cdhdOf}
 use Rattle.scene.specs.declared.Step.{Step}
 use Rattle.replay.specs.declared.Size.{Size}
-use Rattle.replay.specs.Tables.{tabled}
+use Rattle.replay.specs.Tables.{roomOfTables}
 use Rattle.replay.specs.Replay.{sceneAfter}
 use Rattle.climb.specs.Climb.{isOpen}
 use Rattle.climb.specs.Tables.{boxesOf, stateIn}
@@ -24,7 +24,7 @@ boxRow s f = headerRow s (cdhdOf s f)
 
 -- the hit test, as the tables tell it
 abbrev pub holdsIn : List ℕ → Size → List Step → (x y o : ℕ) → Bool
-holdsIn boxes size h x y o = holds (boxesOf boxes (size .count)) (sceneAfter (tabled boxes [] size) h []) x y o
+holdsIn boxes size h x y o = holds (boxesOf boxes (size .count)) (sceneAfter (roomOfTables boxes [] size) h []) x y o
 
 unfoldable pub hitIn : (boxes states : List ℕ) → Size → List Step → List ℕ → (x y o : ℕ) → Bool
 hitIn boxes states size h flags x y o =

@@ -22,7 +22,7 @@ use room::Room;
 use room::Tested;
 use room::test::flags_lent;
 use room::test::test_room;
-use session::plan::settled;
+use session::plan::valid_shown;
 use stored::Shown;
 use stored::bytes::count;
 use verdict::judge::judge_history;
@@ -68,7 +68,7 @@ fn ask(room: &[u8], r: Room, table: &[u32], session: &[u8], flags: &[u8], x: u32
     let mut verdicts = [0u8; 1290];
     judge_history(room, r, table, session, &mut verdicts);
     let size = size_of(r);
-    let shown = settled(session, table, &verdicts, size);
+    let shown = valid_shown(session, table, &verdicts, size);
     if shown.refusal != 0 {
         return Pointed::Refused(9);
     }

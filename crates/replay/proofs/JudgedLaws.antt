@@ -16,7 +16,7 @@ use Rattle.scene.specs.Steps.{Scene, some, without, spotOf, entryOf, clash, rem
 use Rattle.stored.specs.declared.Shown.{Shown}
 use Rattle.replay.specs.declared.Spot.{Spot}
 use Rattle.replay.specs.declared.Size.{Size}
-use Rattle.replay.specs.Tables.{verdictOf, tabled}
+use Rattle.replay.specs.Tables.{verdictOf, roomOfTables}
 use Rattle.stored.specs.Bytes.{entries}
 use Rattle.replay.specs.Replay.{no, ok, goes, IsAt, judged, planOf, Replayed, drawnOn, hiddenOn}
 use Rattle.replay.proofs.Lists.{append-nil, or-false, without-same}
@@ -41,37 +41,37 @@ hide-plan false es = refl
 
 module _ (objects verdicts : List ℕ) (size : Size) (n : ℕ) (few : n < 64) (sc : Scene) where
   pub judged-draw : (o s : ℕ) (p : Place)
-      → judged (tabled objects verdicts size) n sc (Draw o s p)
+      → judged (roomOfTables objects verdicts size) n sc (Draw o s p)
       ≡ cond (eqb (verdictOf verdicts (size .count) o s) 11) (no 11)
-      (drawnOn (tabled objects verdicts size) (verdictOf verdicts (size .count) o s) (entryOf sc o s p) (sc .shown))
-  unfolding judged refusal applied adds removes tabled
+      (drawnOn (roomOfTables objects verdicts size) (verdictOf verdicts (size .count) o s) (entryOf sc o s p) (sc .shown))
+  unfolding judged refusal applied adds removes roomOfTables
   judged-draw o s p =
       rw (lt-leb 64 n few)
-      (draw-plan (eqb (verdictOf verdicts (size .count) o s) 11) (allowed (tabled objects verdicts size) (entryOf sc o s p)) (verdictOf verdicts (size .count) o s)
-      (without (λ f. clash (tabled objects verdicts size) f (entryOf sc o s p)) (sc .shown) ++ entryOf sc o s p ∷ []))
+      (draw-plan (eqb (verdictOf verdicts (size .count) o s) 11) (allowed (roomOfTables objects verdicts size) (entryOf sc o s p)) (verdictOf verdicts (size .count) o s)
+      (without (λ f. clash (roomOfTables objects verdicts size) f (entryOf sc o s p)) (sc .shown) ++ entryOf sc o s p ∷ []))
 
-  pub judged-hide : (o : ℕ) → judged (tabled objects verdicts size) n sc (Hide o) ≡ hiddenOn o (sc .shown)
+  pub judged-hide : (o : ℕ) → judged (roomOfTables objects verdicts size) n sc (Hide o) ≡ hiddenOn o (sc .shown)
   unfolding judged refusal applied adds removes
   judged-hide o =
       rw (lt-leb 64 n few, append-nil (without (λ e. eqb (e .object) o) (sc .shown)))
       (hide-plan (some (λ e. eqb (e .object) o) (sc .shown)) (without (λ e. eqb (e .object) o) (sc .shown)))
 
   pub step-none : (o s : ℕ) (p : Place) (w : ℕ) (r : Shown) → w ≡ verdictOf verdicts (size .count) o s → w ≡ 11 → r .refusal ≡ 11
-      → planOf r ≡ judged (tabled objects verdicts size) n sc (Draw o s p)
+      → planOf r ≡ judged (roomOfTables objects verdicts size) n sc (Draw o s p)
   step-none o s p w r e f g =
       plan-no r 11 g (λ q. omega arith)
       ∙ sym (judged-draw o s p ∙ rw (sym e ∙ f))
 
   pub step-draw : (o s : ℕ) (p : Place) (w : ℕ) (at : Spot) (r : Shown) → w ≡ verdictOf verdicts (size .count) o s → (w ≡ 11 → ⊥)
       → IsAt at (spotOf sc o p)
-      → planOf r ≡ drawnOn (tabled objects verdicts size) w (record { object = o; state = s; x = at .x; y = at .y }) (sc .shown)
-      → planOf r ≡ judged (tabled objects verdicts size) n sc (Draw o s p)
+      → planOf r ≡ drawnOn (roomOfTables objects verdicts size) w (record { object = o; state = s; x = at .x; y = at .y }) (sc .shown)
+      → planOf r ≡ judged (roomOfTables objects verdicts size) n sc (Draw o s p)
   unfolding entryOf
   step-draw o s p w at r e f a g =
       let E : _≡_ {A = Entry} (record { object = o; state = s; x = at .x; y = at .y }) (entryOf sc o s p) =
       λ i. record { object = o; state = s; x = a .x i; y = a .y i } in
       g
-      ∙ ap₂ (λ (k : ℕ) (x : Entry). drawnOn (tabled objects verdicts size) k x (sc .shown)) e E
+      ∙ ap₂ (λ (k : ℕ) (x : Entry). drawnOn (roomOfTables objects verdicts size) k x (sc .shown)) e E
       ∙ sym (judged-draw o s p ∙ rw (ne-eqb (verdictOf verdicts (size .count) o s) 11 (λ q. f (e ∙ q))))
 
 -- ---- the parts of a draw, and a hide

@@ -14,7 +14,7 @@ use Rattle.scene.specs.declared.Step.the-variants.{Draw, Hide}
 use Rattle.scene.specs.Painting.{Room, covers}
 use Rattle.scene.specs.Steps.{Scene, some, only, without, entryOf, sameBox, clash, removes, adds, moves, applied, touches, allowed, refusal, bare, replay, replays}
 use Rattle.replay.specs.declared.Size.{Size}
-use Rattle.replay.specs.Tables.{cellOf, verdictOf, tabled, Sizes, draws, names, sized, Knows}
+use Rattle.replay.specs.Tables.{cellOf, verdictOf, roomOfTables, Sizes, draws, names, sized, TablesAgree}
 use Rattle.replay.specs.Replay.{no, ok, judged}
 
 -- ---- cells
@@ -113,11 +113,11 @@ module _ (room : Room) (e : Entry) (h : allowed room e ≡ true) where
       rw (parts .1, parts .2, parts .3, le-leb w (8 * room .strips) wl, le-leb t (room .height) tl)
 
 -- a place that a table's image is allowed at: 128 strips and 200 rows at most
-pub allowed-bounds : (objects v : List ℕ) (size : Size) (e : Entry) → Sizes size → allowed (tabled objects v size) e ≡ true → (e .x < 1024) × (e .y < 200)
-unfolding tabled
+pub allowed-bounds : (objects v : List ℕ) (size : Size) (e : Entry) → Sizes size → allowed (roomOfTables objects v size) e ≡ true → (e .x < 1024) × (e .y < 200)
+unfolding roomOfTables
 allowed-bounds objects v size e z h =
-    let r = allowed-right (tabled objects v size) e h in
-    let b = allowed-below (tabled objects v size) e h in
+    let r = allowed-right (roomOfTables objects v size) e h in
+    let b = allowed-below (roomOfTables objects v size) e h in
     (omega arith, omega arith)
 
 -- ---- the bridge
@@ -134,15 +134,15 @@ draw-cases false d′ a a′ f f′ p q h = rw (← p)
 
 module _ (room : Room) (objects verdicts : List ℕ) (size : Size) where
   abbrev T : Room
-  T = tabled objects verdicts size
+  T = roomOfTables objects verdicts size
 
-  module _ (steps : List Step) (K : Knows room objects verdicts size steps) where
+  module _ (steps : List Step) (K : TablesAgree room objects verdicts size steps) where
     bare-same : bare room ≡ bare T
-    unfolding bare tabled
+    unfolding bare roomOfTables
     bare-same = λ i. record { shown = []; last = λ o. record { x = K .homeX o i; y = K .homeY o i; set = false } }
 
     box-same : (e f : Entry) → sameBox room e f ≡ sameBox T e f
-    unfolding sameBox tabled
+    unfolding sameBox roomOfTables
     box-same e f = rw (K .width (e .object), K .width (f .object), K .tall (e .object), K .tall (f .object))
 
     removes-same : (sc : Scene) (st : Step) (e : Entry) → removes room sc st e ≡ removes T sc st e
@@ -160,15 +160,15 @@ module _ (room : Room) (objects verdicts : List ℕ) (size : Size) where
     applied-same sc st = λ i. record { shown = without (λ e. removes-same sc st e i) (sc .shown) ++ adds-same sc st i; last = moves sc st }
 
     drawable-same : (o s : ℕ) → names steps o s ≡ true → room .drawable o s ≡ T .drawable o s
-    unfolding tabled
+    unfolding roomOfTables
     drawable-same o s k = K .drawable o s k
 
     fault-same : (o s : ℕ) → names steps o s ≡ true → room .drawable o s ≡ true → sized room o ≡ true → room .fault o s ≡ T .fault o s
-    unfolding tabled
+    unfolding roomOfTables
     fault-same o s k d z = K .fault o s k d z
 
     covers-same : (e : Entry) (s : ℕ) → covers room e s ≡ covers T e s
-    unfolding covers tabled
+    unfolding covers roomOfTables
     covers-same e s = rw (K .width (e .object))
 
     pub touches-same : (sc : Scene) (st : Step) (s : ℕ) → touches room sc st s ≡ touches T sc st s
@@ -181,7 +181,7 @@ module _ (room : Room) (objects verdicts : List ℕ) (size : Size) where
     replay-same (st ∷ h) = ap (λ (sc : Scene). applied room sc st) (replay-same h) ∙ applied-same (replay T (bare T) h) st
 
     allowed-same : (e : Entry) → allowed room e ≡ allowed T e
-    unfolding allowed tabled
+    unfolding allowed roomOfTables
     allowed-same e = rw (K .width (e .object), K .tall (e .object), K .strips, K .height)
 
     -- the refusal of a step whose verdict is known

@@ -21,8 +21,8 @@ verdictOf verdicts count o s =
     cond (eqb o 0) 11 (cond (leb o count) (cond (eqb s 0) 11 (cond (leb s 9) (getD verdicts (10 * o + s) 0) 11)) 11)
 
 -- the room as the tables tell it, with nothing painted: steps and sessions ask for no pixel and no mask
-unfoldable pub tabled : List ℕ → List ℕ → Size → Room
-tabled objects verdicts size =
+unfoldable pub roomOfTables : List ℕ → List ℕ → Size → Room
+roomOfTables objects verdicts size =
     record {
       strips = size .strips;
       height = size .height;
@@ -61,7 +61,7 @@ sized room o =
 
 -- The tables tell what a room is: every object's row, and the verdicts of the images that the steps draw. The image's own refusal is
 -- asked only of an image whose size is allowed, for it is looked at after 12.
-pub record Knows (room : Room) (objects verdicts : List ℕ) (size : Size) (steps : List Step) : Type 0 where
+pub record TablesAgree (room : Room) (objects verdicts : List ℕ) (size : Size) (steps : List Step) : Type 0 where
   pub strips : room .strips ≡ size .strips
   pub height : room .height ≡ size .height
   pub homeX : (o : ℕ) → room .homeX o ≡ cellOf objects (size .count) o 1

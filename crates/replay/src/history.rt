@@ -4,16 +4,16 @@ ghost use Prim.Native.Nat.{ℕ, _+_, _≤_, _<_};
 ghost use mathlib.Core.List.{List, _∷_};
 ghost use lib.ListN.{length};
 ghost use Rattle.scene.specs.Steps.{Scene, moves, spotOf, bare, replay};
-ghost use Rattle.replay.specs.Tables.{tabled, Sizes};
+ghost use Rattle.replay.specs.Tables.{roomOfTables, Sizes};
 ghost use Rattle.stored.specs.Bytes.{stepAt, down, entries};
 ghost use Rattle.replay.specs.Replay.{planOf, judged, drawnOn, hiddenOn, IsAt, Replayed};
 use crate::Size;
 use crate::Spot;
 use crate::list::empty;
 use crate::list::is_shown;
+use crate::list::kept;
 use crate::list::push_if;
 use crate::list::refused;
-use crate::list::sift;
 use crate::tables::cell;
 use crate::tables::fits;
 use crate::tables::verdict;
@@ -50,7 +50,7 @@ fn moved(step: Step, object: u32, was: Spot) -> Spot
 // Where the object last was, after the first `upto` steps.
 pub fn last_place(session: &[u8], objects: &[u32], size: Size, object: u32, upto: usize) -> Spot
     requires { ⌜ (upto ≤ 64) × (450 ≤ length (now session)) × (1032 ≤ length (now objects)) × Sizes size ⌝ }
-    ensures { λ r. ⌜ ((v : List ℕ) → IsAt r (replay (tabled (now (objects .entry)) v size) (bare (tabled (now (objects .entry)) v size)) (down (stepAt (now (session .entry))) upto) .last object)) ⌝ }
+    ensures { λ r. ⌜ ((v : List ℕ) → IsAt r (replay (roomOfTables (now (objects .entry)) v size) (bare (roomOfTables (now (objects .entry)) v size)) (down (stepAt (now (session .entry))) upto) .last object)) ⌝ }
 {
     let mut at = Spot {
         x: cell(objects, size, object, 1),
@@ -76,7 +76,7 @@ fn drawn(
     refusal: u8,
 ) -> Shown
     requires { ⌜ (1032 ≤ length (now objects)) × Sizes size × (s .n < 64) × (at .x < 68719476736) × (at .y < 68719476736) ⌝ }
-    ensures { λ r. ⌜ ((v : List ℕ) → planOf r ≡ drawnOn (tabled (now (objects .entry)) v size) refusal (record { object = object; state = state; x = at .x; y = at .y }) (entries s)) × (r .n ≤ s .n + 1) ⌝ }
+    ensures { λ r. ⌜ ((v : List ℕ) → planOf r ≡ drawnOn (roomOfTables (now (objects .entry)) v size) refusal (record { object = object; state = state; x = at .x; y = at .y }) (entries s)) × (r .n ≤ s .n + 1) ⌝ }
 {
     if fits(objects, size, object, at) {
         if refusal != 0 {
@@ -88,7 +88,7 @@ fn drawn(
             x: at.x as u32,
             y: at.y as u32,
         };
-        let t = sift(objects, size, false, true, s, e);
+        let t = kept(objects, size, true, s, e);
         return push_if(true, t, e);
     }
     refused(s, 12)
@@ -105,7 +105,7 @@ fn hidden(objects: &[u32], size: Size, s: Shown, object: u32) -> Shown
             x: 0,
             y: 0,
         };
-        return sift(objects, size, false, false, s, e);
+        return kept(objects, size, false, s, e);
     }
     refused(s, 11)
 }
@@ -121,7 +121,7 @@ pub fn step_on(
     step: Step,
 ) -> Shown
     requires { ⌜ (upto < 64) × (450 ≤ length (now session)) × (1032 ≤ length (now objects)) × (1290 ≤ length (now verdicts)) × Sizes size × (s .n < 64) ⌝ }
-    ensures { λ r. ⌜ (planOf r ≡ judged (tabled (now (objects .entry)) (now (verdicts .entry)) size) upto (record { shown = entries s; last = replay (tabled (now (objects .entry)) (now (verdicts .entry)) size) (bare (tabled (now (objects .entry)) (now (verdicts .entry)) size)) (down (stepAt (now (session .entry))) upto) .last }) step) × (r .n ≤ s .n + 1) ⌝ }
+    ensures { λ r. ⌜ (planOf r ≡ judged (roomOfTables (now (objects .entry)) (now (verdicts .entry)) size) upto (record { shown = entries s; last = replay (roomOfTables (now (objects .entry)) (now (verdicts .entry)) size) (bare (roomOfTables (now (objects .entry)) (now (verdicts .entry)) size)) (down (stepAt (now (session .entry))) upto) .last }) step) × (r .n ≤ s .n + 1) ⌝ }
 {
     match step {
         Step::Hide(object) => hidden(objects, size, s, object),
@@ -147,8 +147,8 @@ fn next(
     s: Shown,
     step: Step,
 ) -> Shown
-    requires { ⌜ (upto < 64) × (450 ≤ length (now session)) × (1032 ≤ length (now objects)) × (1290 ≤ length (now verdicts)) × Sizes size × Replayed (tabled (now objects) (now verdicts) size) (down (stepAt (now session)) upto) s ⌝ }
-    ensures { λ r. ⌜ Replayed (tabled (now (objects .entry)) (now (verdicts .entry)) size) (step ∷ down (stepAt (now (session .entry))) upto) r ⌝ }
+    requires { ⌜ (upto < 64) × (450 ≤ length (now session)) × (1032 ≤ length (now objects)) × (1290 ≤ length (now verdicts)) × Sizes size × Replayed (roomOfTables (now objects) (now verdicts) size) (down (stepAt (now session)) upto) s ⌝ }
+    ensures { λ r. ⌜ Replayed (roomOfTables (now (objects .entry)) (now (verdicts .entry)) size) (step ∷ down (stepAt (now (session .entry))) upto) r ⌝ }
 {
     if s.refusal != 0 {
         return s;
@@ -159,7 +159,7 @@ fn next(
 // The first `upto` steps of the history, from an empty list.
 pub fn replayed(session: &[u8], objects: &[u32], verdicts: &[u8], size: Size, upto: usize) -> Shown
     requires { ⌜ (upto ≤ 64) × (450 ≤ length (now session)) × (1032 ≤ length (now objects)) × (1290 ≤ length (now verdicts)) × Sizes size ⌝ }
-    ensures { λ r. ⌜ Replayed (tabled (now (objects .entry)) (now (verdicts .entry)) size) (down (stepAt (now (session .entry))) upto) r ⌝ }
+    ensures { λ r. ⌜ Replayed (roomOfTables (now (objects .entry)) (now (verdicts .entry)) size) (down (stepAt (now (session .entry))) upto) r ⌝ }
 {
     let mut s = empty();
     let mut i = 0;

@@ -1,12 +1,12 @@
-// A shown list by value: an entry goes last, entries are sifted, an object is looked for.
+// A shown list by value: an entry goes last, those that a step keeps or removes, an object is looked for.
 ghost use mathlib.Core.Path.{_≡_};
 ghost use Prim.Native.Nat.{ℕ, _+_, _≤_, _<_};
 ghost use mathlib.Core.Bool.{cond};
 ghost use mathlib.Core.List.{List, [], _∷_, _++_};
 ghost use lib.ListN.{length};
 ghost use lib.Dec.{eqb};
-ghost use Rattle.scene.specs.Steps.{some};
-ghost use Rattle.replay.specs.Tables.{tabled, Sizes};
+ghost use Rattle.scene.specs.Steps.{some, only, without};
+ghost use Rattle.replay.specs.Tables.{roomOfTables, Sizes};
 ghost use Rattle.stored.specs.Bytes.{entries};
 ghost use Rattle.replay.specs.Replay.{sifted};
 use crate::Size;
@@ -57,7 +57,7 @@ pub fn push_if(wanted: bool, s: Shown, e: Entry) -> Shown
 // A draw of e (boxes true), or a hide of e's object, removes f.
 fn goes(objects: &[u32], size: Size, boxes: bool, e: Entry, f: Entry) -> bool
     requires { ⌜ (1032 ≤ length (now objects)) × Sizes size ⌝ }
-    ensures { λ r. ⌜ ((v : List ℕ) → r ≡ Rattle.replay.specs.Replay.goes (tabled (now (objects .entry)) v size) boxes e f) ⌝ }
+    ensures { λ r. ⌜ ((v : List ℕ) → r ≡ Rattle.replay.specs.Replay.goes (roomOfTables (now (objects .entry)) v size) boxes e f) ⌝ }
 {
     if f.object == e.object {
         return true;
@@ -78,10 +78,10 @@ fn taken(gone: bool, goes: bool) -> bool
     !goes
 }
 
-// The entries that a draw of e, or a hide of e's object, removes (gone true) or keeps (gone false).
-pub fn sift(objects: &[u32], size: Size, gone: bool, boxes: bool, s: Shown, e: Entry) -> Shown
+// The entries that go (gone true) or those that stay, when e is drawn (boxes true) or e's object is hidden.
+fn sift(objects: &[u32], size: Size, gone: bool, boxes: bool, s: Shown, e: Entry) -> Shown
     requires { ⌜ (1032 ≤ length (now objects)) × Sizes size × (s .n ≤ 64) ⌝ }
-    ensures { λ r. ⌜ ((v : List ℕ) → entries r ≡ sifted gone (Rattle.replay.specs.Replay.goes (tabled (now (objects .entry)) v size) boxes e) (entries s)) × (r .n ≤ s .n) × (r .refusal ≡ 0) ⌝ }
+    ensures { λ r. ⌜ ((v : List ℕ) → entries r ≡ sifted gone (Rattle.replay.specs.Replay.goes (roomOfTables (now (objects .entry)) v size) boxes e) (entries s)) × (r .n ≤ s .n) × (r .refusal ≡ 0) ⌝ }
 {
     let n = s.n;
     let mut t = empty();
@@ -94,6 +94,22 @@ pub fn sift(objects: &[u32], size: Size, gone: bool, boxes: bool, s: Shown, e: E
         i += 1;
     }
     t
+}
+
+// The entries that a draw of e (boxes true), or a hide of e's object, keeps.
+pub fn kept(objects: &[u32], size: Size, boxes: bool, s: Shown, e: Entry) -> Shown
+    requires { ⌜ (1032 ≤ length (now objects)) × Sizes size × (s .n ≤ 64) ⌝ }
+    ensures { λ r. ⌜ ((v : List ℕ) → entries r ≡ without (Rattle.replay.specs.Replay.goes (roomOfTables (now (objects .entry)) v size) boxes e) (entries s)) × (r .n ≤ s .n) × (r .refusal ≡ 0) ⌝ }
+{
+    sift(objects, size, false, boxes, s, e)
+}
+
+// The entries that a draw of e (boxes true), or a hide of e's object, removes.
+pub fn removed(objects: &[u32], size: Size, boxes: bool, s: Shown, e: Entry) -> Shown
+    requires { ⌜ (1032 ≤ length (now objects)) × Sizes size × (s .n ≤ 64) ⌝ }
+    ensures { λ r. ⌜ ((v : List ℕ) → entries r ≡ only (Rattle.replay.specs.Replay.goes (roomOfTables (now (objects .entry)) v size) boxes e) (entries s)) × (r .n ≤ s .n) × (r .refusal ≡ 0) ⌝ }
+{
+    sift(objects, size, true, boxes, s, e)
 }
 
 pub fn is_shown(s: Shown, object: u32) -> bool

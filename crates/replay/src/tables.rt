@@ -4,7 +4,7 @@ ghost use Prim.Native.Nat.{ℕ, _≤_, _<_};
 ghost use mathlib.Core.List.{List};
 ghost use lib.ListN.{length};
 ghost use Rattle.scene.specs.Steps.{allowed, sameBox};
-ghost use Rattle.replay.specs.Tables.{cellOf, verdictOf, tabled, Sizes};
+ghost use Rattle.replay.specs.Tables.{cellOf, verdictOf, roomOfTables, Sizes};
 use crate::Size;
 use crate::Spot;
 use scene::Entry;
@@ -54,7 +54,7 @@ pub fn verdict(verdicts: &[u8], size: Size, object: u32, state: u32) -> u8
 
 pub fn same_box(objects: &[u32], size: Size, e: Entry, f: Entry) -> bool
     requires { ⌜ (1032 ≤ length (now objects)) × Sizes size ⌝ }
-    ensures { λ r. ⌜ ((v : List ℕ) → r ≡ sameBox (tabled (now (objects .entry)) v size) e f) ⌝ }
+    ensures { λ r. ⌜ ((v : List ℕ) → r ≡ sameBox (roomOfTables (now (objects .entry)) v size) e f) ⌝ }
 {
     let same_width = cell(objects, size, e.object, 3) == cell(objects, size, f.object, 3);
     let same_height = cell(objects, size, e.object, 4) == cell(objects, size, f.object, 4);
@@ -64,7 +64,7 @@ pub fn same_box(objects: &[u32], size: Size, e: Entry, f: Entry) -> bool
 // Refusal 12 is given unless this holds of the place that an object is drawn at.
 pub fn fits(objects: &[u32], size: Size, object: u32, at: Spot) -> bool
     requires { ⌜ (1032 ≤ length (now objects)) × Sizes size × (at .x < 68719476736) × (at .y < 68719476736) ⌝ }
-    ensures { λ r. ⌜ ((v : List ℕ) (s : ℕ) → r ≡ allowed (tabled (now (objects .entry)) v size) (record { object = object; state = s; x = at .x; y = at .y })) ⌝ }
+    ensures { λ r. ⌜ ((v : List ℕ) (s : ℕ) → r ≡ allowed (roomOfTables (now (objects .entry)) v size) (record { object = object; state = s; x = at .x; y = at .y })) ⌝ }
 {
     let w = cell(objects, size, object, 3);
     let h = cell(objects, size, object, 4);

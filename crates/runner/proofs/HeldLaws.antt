@@ -8,7 +8,9 @@ use Rattle.room.specs.declared.Room as room
 use Rattle.room.specs.declared.Tested.the-variants.{Right}
 use Rattle.scene.specs.Painting.{Room, Surfaces, painted}
 use Rattle.scene.specs.Steps.{Scene, bare, replay}
-use Rattle.scene.specs.Session.{Call, takeBack, State, loaded, stateAfter, befores, sceneOf, listAnswer, stepList}
+use Rattle.scene.specs.declared.Call.{Call}
+use Rattle.scene.specs.declared.Call.the-variants.{TakeBack}
+use Rattle.scene.specs.Session.{State, loaded, stateAfter, befores, sceneOf, listAnswer, stepList}
 use Rattle.scene.proofs.Demand3 as scene
 use Rattle.layers.specs.Decoded.{decoded}
 use Rattle.play.specs.Bytes.{Lent, testOf, bytesAfter}
@@ -56,7 +58,7 @@ module _ (s : List ℕ) (r : room.Room) (b : Lent) (accepted : testOf s b ≡ Ri
     same-state : held (bytesAfter s b (callsOf l n)) ≡ stateAfter D lent (callsOf l n)
     same-state = play.reached s r b accepted (callsOf l n) .state
 
-    restored : (m : ℕ) → n ≡ suc m → callAt l m ≡ takeBack → getD out m 0 ≡ 0
+    restored : (m : ℕ) → n ≡ suc m → callAt l m ≡ TakeBack → getD out m 0 ≡ 0
         → befores D lent (callsOf l m) ≡ held (bytesAfter s b (callsOf l n)) ∷ befores D lent (callsOf l n)
     unfolding callsOf
     restored m e back zero =

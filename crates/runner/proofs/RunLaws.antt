@@ -25,7 +25,9 @@ use Rattle.room.specs.declared.Tested.{Tested}
 use Rattle.room.specs.declared.Tested.the-variants.{Right, Refused}
 use Rattle.scene.specs.Painting.{Room}
 use Rattle.scene.specs.Steps.{Scene, some, allowed, entryOf, refusal}
-use Rattle.scene.specs.Session.{Call, make, takeBack, State, rightFor, sceneOf, unmade, tried, called, refused}
+use Rattle.scene.specs.declared.Call.{Call}
+use Rattle.scene.specs.declared.Call.the-variants.{Make, TakeBack}
+use Rattle.scene.specs.Session.{State, rightFor, sceneOf, unmade, tried, called, refused}
 use Rattle.scene.specs.declared.Step.{Step}
 use Rattle.scene.specs.declared.Step.the-variants.{Draw, Hide}
 use Rattle.layers.specs.Decoded.{decoded}
@@ -117,8 +119,8 @@ module _ (s : List ℕ) (r : room.Room) where
 
   low-tried : (b : State) (c : Call) → tried D b c .number ≤ 13
   unfolding tried
-  low-tried b (make st) = low-refusal (length (b .session .history)) (sceneOf D (b .session)) st
-  low-tried b takeBack = low-unmade (b .session .history) b
+  low-tried b (Make st) = low-refusal (length (b .session .history)) (sceneOf D (b .session)) st
+  low-tried b TakeBack = low-unmade (b .session .history) b
 
   low-called : (b : State) (c : Call) → called D b c .number ≤ 13
   unfolding called

@@ -4,15 +4,16 @@ use Prim.Native.Nat.{ℕ, zero, suc, _+_, _*_, _/_, min}
 use mathlib.Core.List.{List, [], _∷_}
 use lib.ListN.{length}
 use Rattle.number.specs.Number.{le32}
-use Rattle.scene.specs.Session.{Call, make, takeBack}
+use Rattle.scene.specs.declared.Call.{Call}
+use Rattle.scene.specs.declared.Call.the-variants.{Make, TakeBack}
 use Rattle.scene.specs.declared.Place.the-variants.{Last, Strip}
 use Rattle.scene.specs.declared.Step.the-variants.{Draw, Hide}
 
 abbrev pub callOf : (kind object state a b : ℕ) → Call
-callOf zero o s a b = make (Hide o)
-callOf (suc zero) o s a b = make (Draw o s Last)
-callOf (suc (suc zero)) o s a b = make (Draw o s (Strip a b))
-callOf (suc (suc (suc k))) o s a b = takeBack
+callOf zero o s a b = Make (Hide o)
+callOf (suc zero) o s a b = Make (Draw o s Last)
+callOf (suc (suc zero)) o s a b = Make (Draw o s (Strip a b))
+callOf (suc (suc (suc k))) o s a b = TakeBack
 
 -- the call in the 20 bytes from `at` on
 abbrev pub callFrom : List ℕ → (at : ℕ) → Call

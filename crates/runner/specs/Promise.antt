@@ -7,7 +7,8 @@ use mathlib.Core.List.{List, _∷_}
 use lib.ListN.{getD}
 use Rattle.scene.specs.Painting.{Room, Surfaces, painted}
 use Rattle.scene.specs.Steps.{bare, replay}
-use Rattle.scene.specs.Session.{takeBack, sceneOf, befores, listAnswer, stepList}
+use Rattle.scene.specs.declared.Call.the-variants.{TakeBack}
+use Rattle.scene.specs.Session.{sceneOf, befores, listAnswer, stepList}
 use Rattle.stored.specs.Bytes.{sessionOf}
 use Rattle.play.specs.Bytes.{Lent}
 use Rattle.play.specs.Calls.{stateOf}
@@ -28,5 +29,5 @@ pub record Demand3Held (room : Room) (b : Lent) (l : List ℕ) (n : ℕ) (out : 
   pub shown : sessionOf room (after .session) .shown ≡ replay room (bare room) (stepList room (callsOf l n)) .shown
   pub scene : sceneOf room (sessionOf room (after .session)) ≡ replay room (bare room) (stepList room (callsOf l n))
   -- where the last call is a take-back that is accepted, session and surfaces are those from just before the newest step not yet taken back
-  pub restoring : (m : ℕ) → n ≡ suc m → callAt l m ≡ takeBack → getD out m 0 ≡ 0
+  pub restoring : (m : ℕ) → n ≡ suc m → callAt l m ≡ TakeBack → getD out m 0 ≡ 0
       → befores room (surfacesOf b) (callsOf l m) ≡ stateOf room (after .session) (after .pixels) (after .masks) ∷ befores room (surfacesOf b) (callsOf l n)

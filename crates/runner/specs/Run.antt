@@ -4,7 +4,7 @@ use mathlib.Core.List.{List, [], _∷_}
 use lib.ListN.{set}
 use Rattle.room.specs.declared.Tested.{Tested}
 use Rattle.room.specs.declared.Tested.the-variants.{Right, Refused}
-use Rattle.scene.specs.Session.{Call}
+use Rattle.scene.specs.declared.Call.{Call}
 use Rattle.play.specs.Bytes.{Lent, testOf, afterCall, numberOf, bytesAfter}
 use Rattle.runner.specs.Coded.{callAt, callsOf}
 

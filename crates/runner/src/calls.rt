@@ -3,7 +3,7 @@ ghost use mathlib.Core.Path.{_≡_};
 ghost use Prim.Native.Nat.{_+_, _*_, _≤_};
 ghost use lib.ListN.{length};
 ghost use Rattle.number.specs.Number.{le32};
-ghost use Rattle.scene.specs.Session.{make};
+ghost use Rattle.scene.specs.declared.Call.the-variants.{Make};
 ghost use Rattle.play.specs.Bytes.{afterCall, numberOf};
 ghost use Rattle.runner.specs.Coded.{callOf, callAt, callsOf, callCount};
 ghost use Rattle.runner.specs.Run.{lentOf, played, playedNumber, putFirst};
@@ -24,7 +24,7 @@ fn field(calls: &[u8], at: usize) -> u32
 // The step in the 20 bytes from `at` on, whose kind is known to be 0, 1 or 2.
 fn step_from(calls: &[u8], at: usize, kind: u32) -> Step
     requires { ⌜ (at + 20 ≤ length (now calls)) × (kind ≤ 2) ⌝ }
-    ensures { λ r. ⌜ make r ≡ callOf kind (le32 (now (calls .entry)) (at + 4)) (le32 (now (calls .entry)) (at + 8)) (le32 (now (calls .entry)) (at + 12)) (le32 (now (calls .entry)) (at + 16)) ⌝ }
+    ensures { λ r. ⌜ Make r ≡ callOf kind (le32 (now (calls .entry)) (at + 4)) (le32 (now (calls .entry)) (at + 8)) (le32 (now (calls .entry)) (at + 12)) (le32 (now (calls .entry)) (at + 16)) ⌝ }
 {
     let object = field(calls, at + 4);
     match kind {

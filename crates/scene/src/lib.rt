@@ -13,6 +13,12 @@ pub enum Step {
     Hide(u32),
 }
 
+// A call on a session: it makes a step, or takes the newest one back.
+pub enum Call {
+    Make(Step),
+    TakeBack,
+}
+
 // An entry of the shown list: an object in a state, its image's upper left corner at pixel (x, y).
 pub struct Entry {
     pub object: u32,

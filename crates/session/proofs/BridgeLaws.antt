@@ -10,14 +10,14 @@ use Rattle.scene.specs.Steps.{Scene}
 use Rattle.scene.specs.Session.{Session, sameList, rightFor, sceneOf}
 use Rattle.stored.specs.Bytes.{sessionOf, stepsOf, allPlaced, marksFrom}
 use Rattle.replay.specs.declared.Size.{Size}
-use Rattle.replay.specs.Tables.{tabled, draws, names, Knows}
+use Rattle.replay.specs.Tables.{roomOfTables, draws, names, TablesAgree}
 use Rattle.replay.specs.Replay.{no, ok, judged}
 use Rattle.replay.proofs.TablesLaws.{judged-same, replay-same, replays-same}
-use Rattle.session.specs.Plans.{settledOf, planned, undone, plannedBack}
+use Rattle.session.specs.Plans.{validShown, planned, undone, plannedBack}
 
-module _ (room : Room) (objects verdicts : List ℕ) (size : Size) (steps : List Step) (K : Knows room objects verdicts size steps) where
+module _ (room : Room) (objects verdicts : List ℕ) (size : Size) (steps : List Step) (K : TablesAgree room objects verdicts size steps) where
   abbrev T : Room
-  T = tabled objects verdicts size
+  T = roomOfTables objects verdicts size
 
   pub session-same : (l : List ℕ) → sessionOf room l ≡ sessionOf T l
   unfolding sessionOf
@@ -43,9 +43,9 @@ module _ (room : Room) (objects verdicts : List ℕ) (size : Size) (steps : List
     unfolding sessionOf
     right-bytes = right-same (sessionOf room l) k ∙ ap (rightFor T) (session-same l)
 
-    pub settled-same : settledOf room l ≡ settledOf T l
-    unfolding settledOf
-    settled-same = λ i. cond (right-bytes i) (ok (session-same l i .shown)) (no 9)
+    pub valid-same : validShown room l ≡ validShown T l
+    unfolding validShown
+    valid-same = λ i. cond (right-bytes i) (ok (session-same l i .shown)) (no 9)
 
     pub back-same : plannedBack room l ≡ plannedBack T l
     unfolding plannedBack sessionOf

@@ -13,18 +13,19 @@ use Rattle.scene.specs.declared.Step.{Step}
 use Rattle.scene.specs.declared.Step.the-variants.{Draw, Hide}
 use Rattle.scene.specs.Painting.{Room, Surfaces}
 use Rattle.scene.specs.Steps.{Scene, without, entryOf, removes, adds, applied, touches, refusal, bare, replay, replays}
-use Rattle.scene.specs.Session.{Session, State, make, takeBack, rightFor, sceneOf, refused, made, unmade, tried, called}
+use Rattle.scene.specs.declared.Call.the-variants.{Make, TakeBack}
+use Rattle.scene.specs.Session.{Session, State, rightFor, sceneOf, refused, made, unmade, tried, called}
 use Rattle.replay.specs.declared.Size.{Size}
-use Rattle.replay.specs.Tables.{names, draws, tabled, Knows}
+use Rattle.replay.specs.Tables.{names, draws, roomOfTables, TablesAgree}
 use Rattle.stored.specs.Bytes.{down, stepAt, stepsOf, readable, sessionOf, putShown, allPlaced, marksFrom, afterStep, afterBack, putNewest, dropNewest, entries}
 use Rattle.replay.specs.Replay.{Plan, no, ok, judged, planOf, sceneAfter}
-use Rattle.session.specs.Plans.{settledOf, planned, undone, plannedBack, numberOf, stepKept, backKept}
+use Rattle.session.specs.Plans.{validShown, planned, undone, plannedBack, numberOf, stepKept, backKept}
 use Rattle.stored.specs.declared.Shown.{Shown}
 use Rattle.replay.proofs.JudgedLaws.{plan-means}
 use Rattle.session.proofs.PlanLaws.{accepted-plan, list-is, plan-and}
 use Rattle.replay.proofs.Lists.{append-nil}
 use Rattle.replay.proofs.TablesLaws.{applied-same, replay-same, touches-same, or-left, or-right}
-use Rattle.session.proofs.BridgeLaws.{session-same, settled-same, back-same, planned-same}
+use Rattle.session.proofs.BridgeLaws.{session-same, valid-same, back-same, planned-same}
 use Rattle.stored.proofs.BytesLaws.{length-down, newest-length, dropped-length, steps-after, steps-dropped, shown-back}
 use Rattle.replay.proofs.ReplayLaws.{all-stand, placed-back, replays-older, replays-few, accepted-few, right-shown, right-scene}
 
@@ -133,8 +134,8 @@ module _ (room : Room) where
         go true q = h refl q
         go false q = refl
 
-    pub make-called : (st : Step) → (called room b (make st) .number ≡ numberOf (planned room l st))
-        × (called room b (make st) .after .session ≡ sessionOf room (stepKept l st (planned room l st)))
+    pub make-called : (st : Step) → (called room b (Make st) .number ≡ numberOf (planned room l st))
+        × (called room b (Make st) .after .session ≡ sessionOf room (stepKept l st (planned room l st)))
     unfolding called tried planned judged made
     make-called st =
         let k = refusal room (length (s0 .history)) (sceneOf room s0) st in
@@ -148,8 +149,8 @@ module _ (room : Room) where
     undone-case [] e r = (refl, refl)
     undone-case (st ∷ h) e r = (refl, sym (back-holds l long r st h e))
 
-    pub back-called : (called room b takeBack .number ≡ numberOf (plannedBack room l))
-        × (called room b takeBack .after .session ≡ sessionOf room (backKept l (plannedBack room l)))
+    pub back-called : (called room b TakeBack .number ≡ numberOf (plannedBack room l))
+        × (called room b TakeBack .after .session ≡ sessionOf room (backKept l (plannedBack room l)))
     unfolding called tried plannedBack sessionOf
     back-called = go (rightFor room s0) refl
       where
@@ -173,22 +174,22 @@ long-wrong room l e = go (rightFor room (sessionOf room l)) refl
 
 module _ (room : Room) (objects verdicts : List ℕ) (size : Size) (l : List ℕ) where
   abbrev T : Room
-  T = tabled objects verdicts size
+  T = roomOfTables objects verdicts size
 
   -- a history of at most 64 steps is read, and its images are known
   read : leb (getD l 0 0) 64 ≡ true → readable l ≡ stepsOf l
   unfolding readable
   read e = rw e
 
-  pub settled-known : Knows room objects verdicts size (readable l) → settledOf room l ≡ settledOf T l
-  unfolding settledOf
-  settled-known K = go (leb (getD l 0 0) 64) refl
+  pub valid-known : TablesAgree room objects verdicts size (readable l) → validShown room l ≡ validShown T l
+  unfolding validShown
+  valid-known K = go (leb (getD l 0 0) 64) refl
     where
-      go : (t : Bool) → leb (getD l 0 0) 64 ≡ t → settledOf room l ≡ settledOf T l
-      go true q = settled-same room objects verdicts size (readable l) K l (λ o s n. subst (λ (h : List Step). names h o s ≡ true) (sym (read q)) n)
+      go : (t : Bool) → leb (getD l 0 0) 64 ≡ t → validShown room l ≡ validShown T l
+      go true q = valid-same room objects verdicts size (readable l) K l (λ o s n. subst (λ (h : List Step). names h o s ≡ true) (sym (read q)) n)
       go false q = rw (long-wrong room l q, long-wrong T l q)
 
-  pub back-known : Knows room objects verdicts size (readable l) → plannedBack room l ≡ plannedBack T l
+  pub back-known : TablesAgree room objects verdicts size (readable l) → plannedBack room l ≡ plannedBack T l
   unfolding plannedBack
   back-known K = go (leb (getD l 0 0) 64) refl
     where
@@ -196,7 +197,7 @@ module _ (room : Room) (objects verdicts : List ℕ) (size : Size) (l : List ℕ
       go true q = back-same room objects verdicts size (readable l) K l (λ o s n. subst (λ (h : List Step). names h o s ≡ true) (sym (read q)) n)
       go false q = rw (long-wrong room l q, long-wrong T l q)
 
-  pub planned-known : (st : Step) → Knows room objects verdicts size (st ∷ readable l) → planned room l st ≡ planned T l st
+  pub planned-known : (st : Step) → TablesAgree room objects verdicts size (st ∷ readable l) → planned room l st ≡ planned T l st
   unfolding planned names
   planned-known st K = go (leb (getD l 0 0) 64) refl
     where
@@ -212,17 +213,17 @@ module _ (room : Room) (objects verdicts : List ℕ) (size : Size) (l : List ℕ
     abbrev held : State
     held = record { session = sessionOf room l; surfaces = lent }
 
-    pub act-called : (st : Step) → Knows room objects verdicts size (st ∷ readable l)
-        → (called room held (make st) .number ≡ numberOf (planned T l st))
-        × (called room held (make st) .after .session ≡ sessionOf room (stepKept l st (planned T l st)))
+    pub act-called : (st : Step) → TablesAgree room objects verdicts size (st ∷ readable l)
+        → (called room held (Make st) .number ≡ numberOf (planned T l st))
+        × (called room held (Make st) .after .session ≡ sessionOf room (stepKept l st (planned T l st)))
     act-called st K =
         let p = planned-known st K in
         let c = make-called room l long lent st in
         (c .0 ∙ ap numberOf p, c .1 ∙ ap (λ (x : Plan). sessionOf room (stepKept l st x)) p)
 
-    pub take-back-called : Knows room objects verdicts size (readable l)
-        → (called room held takeBack .number ≡ numberOf (plannedBack T l))
-        × (called room held takeBack .after .session ≡ sessionOf room (backKept l (plannedBack T l)))
+    pub take-back-called : TablesAgree room objects verdicts size (readable l)
+        → (called room held TakeBack .number ≡ numberOf (plannedBack T l))
+        × (called room held TakeBack .after .session ≡ sessionOf room (backKept l (plannedBack T l)))
     take-back-called K =
         let p = back-known K in
         let c = back-called room l long lent in
@@ -230,7 +231,7 @@ module _ (room : Room) (objects verdicts : List ℕ) (size : Size) (l : List ℕ
 
   -- what `touched` asks of an accepted step, and of the newest step of a session that is taken back
   module _ (s r : Shown) where
-    pub step-ready : (st : Step) → planOf s ≡ settledOf T l → s .refusal ≡ 0 → planOf r ≡ planned T l st → r .refusal ≡ 0
+    pub step-ready : (st : Step) → planOf s ≡ validShown T l → s .refusal ≡ 0 → planOf r ≡ planned T l st → r .refusal ≡ 0
         → refusal T (getD l 0 0) (sceneAfter T (stepsOf l) (entries s)) st ≡ 0
     unfolding sessionOf
     step-ready st p z q y =
@@ -251,12 +252,12 @@ module _ (room : Room) (objects verdicts : List ℕ) (size : Size) (l : List ℕ
 
 -- ---- what scene's `made` and `unmade` paint: the list, and the strips
 
-module _ (room : Room) (objects verdicts : List ℕ) (size : Size) (l : List ℕ) (steps : List Step) (K : Knows room objects verdicts size steps) where
+module _ (room : Room) (objects verdicts : List ℕ) (size : Size) (l : List ℕ) (steps : List Step) (K : TablesAgree room objects verdicts size steps) where
   abbrev T′ : Room
-  T′ = tabled objects verdicts size
+  T′ = roomOfTables objects verdicts size
 
-  -- a step: s is the settled list, r the plan's
-  module _ (st : Step) (s r : Shown) (p : planOf s ≡ settledOf T′ l) (z : s .refusal ≡ 0) where
+  -- a step: s is the list of the session, r the plan's
+  module _ (st : Step) (s r : Shown) (p : planOf s ≡ validShown T′ l) (z : s .refusal ≡ 0) where
     scene-is : sceneOf room (sessionOf room l) ≡ sceneAfter T′ (stepsOf l) (entries s)
     unfolding sceneOf sessionOf
     scene-is =

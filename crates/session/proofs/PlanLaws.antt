@@ -16,29 +16,29 @@ use Rattle.scene.specs.Steps.{Scene, spotOf, entryOf, applied, allowed, refusal
 use Rattle.scene.specs.Session.{rightFor, sceneOf}
 use Rattle.stored.specs.declared.Shown.{Shown}
 use Rattle.replay.specs.declared.Size.{Size}
-use Rattle.replay.specs.Tables.{verdictOf, tabled, Sizes}
+use Rattle.replay.specs.Tables.{verdictOf, roomOfTables, Sizes}
 use Rattle.stored.specs.Bytes.{down, stepAt, stepsOf, sessionOf, marksFrom, sameMarks, All, Small, SmallEntry, entries}
 use Rattle.replay.specs.Replay.{Plan, no, ok, judged, planOf, Replayed}
-use Rattle.session.specs.Plans.{settledOf, planned, undone, plannedBack}
+use Rattle.session.specs.Plans.{validShown, planned, undone, plannedBack}
 use Rattle.stored.proofs.Lists.{all-map, some-all}
 use Rattle.replay.proofs.TablesLaws.{verdict-bounds, allowed-bounds}
 use Rattle.replay.proofs.JudgedLaws.{plan-no, plan-ok, plan-means, no-one}
 use Rattle.stored.proofs.BytesLaws.{length-down}
 use Rattle.replay.proofs.ReplayLaws.{There, accepted-few, accepted-draw, accepted-hide, applied-there, all-there, replays-older, replays-few, right-is, right-shown, right-scene}
 
--- ---- a settled session
+-- ---- the list of a session that is right
 
 module _ (room : Room) (l : List ℕ) (s r : Shown) (n : ℕ) (en : n ≡ getD l 0 0) where
-  wrong : rightFor room (sessionOf room l) ≡ false → r .refusal ≡ 9 → planOf r ≡ settledOf room l
-  unfolding settledOf
+  wrong : rightFor room (sessionOf room l) ≡ false → r .refusal ≡ 9 → planOf r ≡ validShown room l
+  unfolding validShown
   wrong f e = rw f (plan-no r 9 e (λ q. omega arith))
 
   not-replayed : replays room (bare room) (stepsOf l) ≡ false → rightFor room (sessionOf room l) ≡ false
   not-replayed f = right-is room l ∙ rw f
 
   -- the history has more than 64 steps
-  pub settled-long : 64 < n → r .refusal ≡ 9 → planOf r ≡ settledOf room l
-  settled-long h e = wrong (not-replayed (go (replays room (bare room) (stepsOf l)) refl)) e
+  pub valid-long : 64 < n → r .refusal ≡ 9 → planOf r ≡ validShown room l
+  valid-long h e = wrong (not-replayed (go (replays room (bare room) (stepsOf l)) refl)) e
     where
       go : (t : Bool) → replays room (bare room) (stepsOf l) ≡ t → t ≡ false
       go true q = absurd (omega (arith, replays-few room (stepsOf l) q, length-down (stepAt l) (getD l 0 0)))
@@ -49,8 +49,8 @@ module _ (room : Room) (l : List ℕ) (s r : Shown) (n : ℕ) (en : n ≡ getD l
     R′ = subst (λ (k : ℕ). Replayed room (down (stepAt l) k) s) en R
 
     -- a step of it is refused
-    pub settled-no : (s .refusal ≡ 0 → ⊥) → r .refusal ≡ 9 → planOf r ≡ settledOf room l
-    settled-no k e = wrong (not-replayed (sym (R′ .right) ∙ ne-eqb (s .refusal) 0 k)) e
+    pub valid-no : (s .refusal ≡ 0 → ⊥) → r .refusal ≡ 9 → planOf r ≡ validShown room l
+    valid-no k e = wrong (not-replayed (sym (R′ .right) ∙ ne-eqb (s .refusal) 0 k)) e
 
     right-then : s .refusal ≡ 0 → (t : Bool) → t ≡ sameMarks (marksFrom l 0 (getD l 1 0)) (entries s) → rightFor room (sessionOf room l) ≡ t
     right-then k t f =
@@ -58,34 +58,34 @@ module _ (room : Room) (l : List ℕ) (s r : Shown) (n : ℕ) (en : n ≡ getD l
         ∙ rw (sym (R′ .right) ∙ eq-eqb (s .refusal) 0 k, ← R′ .list k) (sym f)
 
     -- it replays to another list
-    pub settled-off : s .refusal ≡ 0 → false ≡ sameMarks (marksFrom l 0 (getD l 1 0)) (entries s) → r .refusal ≡ 9 → planOf r ≡ settledOf room l
-    settled-off k f e = wrong (right-then k false f) e
+    pub valid-off : s .refusal ≡ 0 → false ≡ sameMarks (marksFrom l 0 (getD l 1 0)) (entries s) → r .refusal ≡ 9 → planOf r ≡ validShown room l
+    valid-off k f e = wrong (right-then k false f) e
 
-    pub settled-yes : s .refusal ≡ 0 → true ≡ sameMarks (marksFrom l 0 (getD l 1 0)) (entries s) → planOf s ≡ settledOf room l
-    unfolding settledOf
-    settled-yes k f =
+    pub valid-yes : s .refusal ≡ 0 → true ≡ sameMarks (marksFrom l 0 (getD l 1 0)) (entries s) → planOf s ≡ validShown room l
+    unfolding validShown
+    valid-yes k f =
         let t = right-then k true f in
         rw t (plan-ok s (sessionOf room l .shown) k (R′ .list k ∙ sym (right-shown room l t .1)))
 
--- ---- a draw or a hide, and a take-back, of a settled session
+-- ---- a draw or a hide, and a take-back, of such a session
 
 judged-full : (room : Room) (n : ℕ) (sc : Scene) (st : Step) → n ≡ 64 → judged room n sc st ≡ no 10
 unfolding judged refusal
 judged-full room n sc (Draw o s p) e = rw e
 judged-full room n sc (Hide o) e = rw e
 
-module _ (room : Room) (l : List ℕ) (s : Shown) (e : planOf s ≡ settledOf room l) where
+module _ (room : Room) (l : List ℕ) (s : Shown) (e : planOf s ≡ validShown room l) where
   right-if : (b : Bool) → eqb (s .refusal) 0 ≡ b → rightFor room (sessionOf room l) ≡ b
-  unfolding settledOf
+  unfolding validShown
   right-if b q = sym (plan-means s (rightFor room (sessionOf room l)) 9 (sessionOf room l .shown) e .0) ∙ q
 
   pub list-is : s .refusal ≡ 0 → entries s ≡ sessionOf room l .shown
-  unfolding settledOf
+  unfolding validShown
   list-is z = plan-means s (rightFor room (sessionOf room l)) 9 (sessionOf room l .shown) e .1 z
 
   -- the session is not right
   nine : (s .refusal ≡ 0 → ⊥) → planOf s ≡ no 9
-  unfolding settledOf
+  unfolding validShown
   nine h = e ∙ rw (right-if false (ne-eqb (s .refusal) 0 h))
 
   pub plan-wrong : (st : Step) → (s .refusal ≡ 0 → ⊥) → planOf s ≡ planned room l st
@@ -170,10 +170,10 @@ accepted-plan room l st r e q =
 
 module _ (objects verdicts : List ℕ) (size : Size) (z : Sizes size) where
   abbrev T : Room
-  T = tabled objects verdicts size
+  T = roomOfTables objects verdicts size
 
   there-small : (o s : ℕ) → T .drawable o s ≡ true → (o ≤ 128) × (s ≤ 9)
-  unfolding tabled
+  unfolding roomOfTables
   there-small o s h =
       let v = not-true (eqb (verdictOf verdicts (size .count) o s) 11) h in
       let b = verdict-bounds verdicts (size .count) o s (eqb-false (verdictOf verdicts (size .count) o s) 11 v) in

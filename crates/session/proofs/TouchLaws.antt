@@ -16,10 +16,10 @@ use Rattle.scene.specs.declared.Step.{Step}
 use Rattle.scene.specs.declared.Step.the-variants.{Draw, Hide}
 use Rattle.scene.specs.Painting.{Room, covers}
 use Rattle.scene.specs.Steps.{Scene, some, only, spotOf, entryOf, clash, removes, adds, touches, allowed, refusal}
-use Rattle.scene.proofs.Reading.{length-each, each-at}
+use Rattle.grid.proofs.Upd.{length-upd, getD-upd}
 use Rattle.replay.specs.declared.Size.{Size}
 use Rattle.replay.specs.declared.Spot.{Spot}
-use Rattle.replay.specs.Tables.{tabled, Sizes}
+use Rattle.replay.specs.Tables.{roomOfTables, Sizes}
 use Rattle.replay.specs.Replay.{IsAt, goes}
 use Rattle.session.specs.Plans.{flag, flagged}
 use Rattle.replay.proofs.Lists.{or-false, append-nil}
@@ -38,10 +38,10 @@ entry-is sc o s p at a = λ i. record { object = o; state = s; x = a .x i; y = a
 
 -- an accepted draw's place is in the room
 pub draw-near : (objects v : List ℕ) (size : Size) → Sizes size → (n : ℕ) (sc : Scene) (o s : ℕ) (p : Place) (at : Spot)
-    → refusal (tabled objects v size) n sc (Draw o s p) ≡ 0 → IsAt at (spotOf sc o p) → (at .x < 1024) × (at .y < 200)
+    → refusal (roomOfTables objects v size) n sc (Draw o s p) ≡ 0 → IsAt at (spotOf sc o p) → (at .x < 1024) × (at .y < 200)
 draw-near objects v size z n sc o s p at e a =
     allowed-bounds objects v size (record { object = o; state = s; x = at .x; y = at .y }) z
-    (ap (allowed (tabled objects v size)) (entry-is sc o s p at a) ∙ accepted-draw (tabled objects v size) n sc o s p e .1)
+    (ap (allowed (roomOfTables objects v size)) (entry-is sc o s p at a) ∙ accepted-draw (roomOfTables objects v size) n sc o s p e .1)
 
 pub hide-changed : (room : Room) (sc : Scene) (e : Entry) (es r : List Entry) → r ≡ only (goes room false e) es
     → r ≡ only (removes room sc (Hide (e .object))) es ++ adds room sc (Hide (e .object))
@@ -73,11 +73,11 @@ below k n z = go (ltb k n) refl
 module _ (f : ℕ → Bool) (l : List ℕ) where
   pub length-flagged : (n : ℕ) → length (flagged f n l) ≡ length l
   unfolding flagged
-  length-flagged n = length-each (λ k old. cond (ltb k n) (flag (f k)) old) 0 l
+  length-flagged n = length-upd (λ k old. cond (ltb k n) (flag (f k)) old) l
 
   pub flag-at : (n k : ℕ) → k < length l → getD (flagged f n l) k 0 ≡ cond (ltb k n) (flag (f k)) (getD l k 0)
   unfolding flagged
-  flag-at n k h = each-at (λ k old. cond (ltb k n) (flag (f k)) old) l k h
+  flag-at n k h = getD-upd (λ k old. cond (ltb k n) (flag (f k)) old) l k h
 
   pub flag-none : l ≡ flagged f 0 l
   flag-none =

@@ -5,16 +5,17 @@ use mathlib.Core.Bool.{Bool, true, false, cond}
 use mathlib.Core.List.{List, [], _∷_}
 use lib.Dec.{ltb}
 use lib.ListN.{length}
+use Rattle.grid.specs.Grid.{upd}
 use Rattle.scene.specs.declared.Step.{Step}
-use Rattle.scene.specs.Painting.{Room, eachFrom}
+use Rattle.scene.specs.Painting.{Room}
 use Rattle.scene.specs.Steps.{bare, replay}
 use Rattle.scene.specs.Session.{rightFor, sceneOf}
 use Rattle.stored.specs.Bytes.{sessionOf, afterStep, afterBack}
 use Rattle.replay.specs.Replay.{Plan, no, ok, judged}
 
 -- 9 exactly if the session is not right for the room
-unfoldable pub settledOf : Room → List ℕ → Plan
-settledOf room l = cond (rightFor room (sessionOf room l)) (ok (sessionOf room l .shown)) (no 9)
+unfoldable pub validShown : Room → List ℕ → Plan
+validShown room l = cond (rightFor room (sessionOf room l)) (ok (sessionOf room l .shown)) (no 9)
 
 -- a draw or a hide: 9, then 10, 11, 12, the image's number
 unfoldable pub planned : Room → List ℕ → Step → Plan
@@ -48,4 +49,4 @@ flag true = 1
 flag false = 0
 
 unfoldable pub flagged : (ℕ → Bool) → ℕ → List ℕ → List ℕ
-flagged f n l = eachFrom 0 (λ k old. cond (ltb k n) (flag (f k)) old) l
+flagged f n l = upd (λ k old. cond (ltb k n) (flag (f k)) old) l

@@ -2,10 +2,10 @@
 ghost use mathlib.Core.Path.{_≡_};
 ghost use Prim.Native.Nat.{_≤_, _<_};
 ghost use lib.ListN.{length, getD};
-ghost use Rattle.replay.specs.Tables.{tabled, Sizes};
+ghost use Rattle.replay.specs.Tables.{roomOfTables, Sizes};
 ghost use Rattle.stored.specs.Bytes.{Small, SmallEntry, All, entries};
 ghost use Rattle.replay.specs.Replay.{planOf};
-ghost use Rattle.session.specs.Plans.{settledOf, planned, plannedBack};
+ghost use Rattle.session.specs.Plans.{validShown, planned, plannedBack};
 use replay::Size;
 use replay::history::replayed;
 use replay::history::step_on;
@@ -17,9 +17,9 @@ use stored::bytes::agrees;
 use stored::bytes::count;
 
 // The list of a session that is right for the room; else refusal 9.
-pub fn settled(session: &[u8], objects: &[u32], verdicts: &[u8], size: Size) -> Shown
+pub fn valid_shown(session: &[u8], objects: &[u32], verdicts: &[u8], size: Size) -> Shown
     requires { ⌜ (450 ≤ length (now session)) × (1032 ≤ length (now objects)) × (1290 ≤ length (now verdicts)) × Sizes size ⌝ }
-    ensures { λ r. ⌜ (planOf r ≡ settledOf (tabled (now (objects .entry)) (now (verdicts .entry)) size) (now (session .entry))) × (r .n ≤ 64) × (r .refusal ≡ 0 → (r .n ≤ getD (now (session .entry)) 0 0) × (getD (now (session .entry)) 0 0 ≤ 64)) ⌝ }
+    ensures { λ r. ⌜ (planOf r ≡ validShown (roomOfTables (now (objects .entry)) (now (verdicts .entry)) size) (now (session .entry))) × (r .n ≤ 64) × (r .refusal ≡ 0 → (r .n ≤ getD (now (session .entry)) 0 0) × (getD (now (session .entry)) 0 0 ≤ 64)) ⌝ }
 {
     let n = count(session[0]);
     if n <= 64 {
@@ -35,7 +35,7 @@ pub fn settled(session: &[u8], objects: &[u32], verdicts: &[u8], size: Size) -> 
     refused(empty(), 9)
 }
 
-// A draw or a hide of a session whose settled list is s.
+// A draw or a hide of a session whose list is s.
 pub fn plan_on(
     session: &[u8],
     objects: &[u32],
@@ -44,8 +44,8 @@ pub fn plan_on(
     s: Shown,
     step: Step,
 ) -> Shown
-    requires { ⌜ (450 ≤ length (now session)) × (1032 ≤ length (now objects)) × (1290 ≤ length (now verdicts)) × Sizes size × (planOf s ≡ settledOf (tabled (now objects) (now verdicts) size) (now session)) × (s .n ≤ 64) × (s .refusal ≡ 0 → (s .n ≤ getD (now session) 0 0) × (getD (now session) 0 0 ≤ 64)) ⌝ }
-    ensures { λ r. ⌜ (planOf r ≡ planned (tabled (now (objects .entry)) (now (verdicts .entry)) size) (now (session .entry)) step) × (r .n ≤ 64) × (r .refusal ≡ 0 → (getD (now (session .entry)) 0 0 < 64) × Small step × All SmallEntry (entries r)) ⌝ }
+    requires { ⌜ (450 ≤ length (now session)) × (1032 ≤ length (now objects)) × (1290 ≤ length (now verdicts)) × Sizes size × (planOf s ≡ validShown (roomOfTables (now objects) (now verdicts) size) (now session)) × (s .n ≤ 64) × (s .refusal ≡ 0 → (s .n ≤ getD (now session) 0 0) × (getD (now session) 0 0 ≤ 64)) ⌝ }
+    ensures { λ r. ⌜ (planOf r ≡ planned (roomOfTables (now (objects .entry)) (now (verdicts .entry)) size) (now (session .entry)) step) × (r .n ≤ 64) × (r .refusal ≡ 0 → (getD (now (session .entry)) 0 0 < 64) × Small step × All SmallEntry (entries r)) ⌝ }
 {
     if s.refusal != 0 {
         return s;
@@ -60,9 +60,9 @@ pub fn plan_on(
 // A take-back: the shown list of all steps but the newest, or its refusal.
 pub fn plan_back(session: &[u8], objects: &[u32], verdicts: &[u8], size: Size) -> Shown
     requires { ⌜ (450 ≤ length (now session)) × (1032 ≤ length (now objects)) × (1290 ≤ length (now verdicts)) × Sizes size ⌝ }
-    ensures { λ r. ⌜ (planOf r ≡ plannedBack (tabled (now (objects .entry)) (now (verdicts .entry)) size) (now (session .entry))) × (r .n ≤ 64) × (r .refusal ≡ 0 → (0 < getD (now (session .entry)) 0 0) × All SmallEntry (entries r) × (getD (now (session .entry)) 0 0 ≤ 64) × (r .n < getD (now (session .entry)) 0 0)) ⌝ }
+    ensures { λ r. ⌜ (planOf r ≡ plannedBack (roomOfTables (now (objects .entry)) (now (verdicts .entry)) size) (now (session .entry))) × (r .n ≤ 64) × (r .refusal ≡ 0 → (0 < getD (now (session .entry)) 0 0) × All SmallEntry (entries r) × (getD (now (session .entry)) 0 0 ≤ 64) × (r .n < getD (now (session .entry)) 0 0)) ⌝ }
 {
-    let s = settled(session, objects, verdicts, size);
+    let s = valid_shown(session, objects, verdicts, size);
     if s.refusal != 0 {
         return s;
     }

@@ -5,7 +5,7 @@ ghost use mathlib.Core.List.{List, _++_};
 ghost use lib.ListN.{length};
 ghost use Rattle.scene.specs.Painting.{covers};
 ghost use Rattle.scene.specs.Steps.{adds, only, refusal, removes, some, touches};
-ghost use Rattle.replay.specs.Tables.{tabled, Sizes};
+ghost use Rattle.replay.specs.Tables.{roomOfTables, Sizes};
 ghost use Rattle.stored.specs.Bytes.{stepAt, down, entries};
 ghost use Rattle.replay.specs.Replay.{sceneAfter};
 ghost use Rattle.session.specs.Plans.{flag, flagged};
@@ -13,7 +13,7 @@ use replay::Size;
 use replay::history::last_place;
 use replay::history::placed;
 use replay::list::push_if;
-use replay::list::sift;
+use replay::list::removed;
 use replay::tables::cell;
 use replay::tables::wide;
 use scene::Entry;
@@ -23,8 +23,8 @@ use stored::Shown;
 // The entries that a step removes from the list s or adds to it, after the first `upto` steps. The step is one that is accepted, so that
 // its place is in the room.
 fn changed(session: &[u8], objects: &[u32], size: Size, upto: usize, s: Shown, step: Step) -> Shown
-    requires { ⌜ (upto ≤ 64) × (450 ≤ length (now session)) × (1032 ≤ length (now objects)) × Sizes size × (s .n < 64) × ((v : List ℕ) × (refusal (tabled (now objects) v size) upto (sceneAfter (tabled (now objects) v size) (down (stepAt (now session)) upto) (entries s)) step ≡ 0)) ⌝ }
-    ensures { λ r. ⌜ ((v : List ℕ) → entries r ≡ only (removes (tabled (now (objects .entry)) v size) (sceneAfter (tabled (now (objects .entry)) v size) (down (stepAt (now (session .entry))) upto) (entries s)) step) (entries s) ++ adds (tabled (now (objects .entry)) v size) (sceneAfter (tabled (now (objects .entry)) v size) (down (stepAt (now (session .entry))) upto) (entries s)) step) × (r .n ≤ 64) ⌝ }
+    requires { ⌜ (upto ≤ 64) × (450 ≤ length (now session)) × (1032 ≤ length (now objects)) × Sizes size × (s .n < 64) × ((v : List ℕ) × (refusal (roomOfTables (now objects) v size) upto (sceneAfter (roomOfTables (now objects) v size) (down (stepAt (now session)) upto) (entries s)) step ≡ 0)) ⌝ }
+    ensures { λ r. ⌜ ((v : List ℕ) → entries r ≡ only (removes (roomOfTables (now (objects .entry)) v size) (sceneAfter (roomOfTables (now (objects .entry)) v size) (down (stepAt (now (session .entry))) upto) (entries s)) step) (entries s) ++ adds (roomOfTables (now (objects .entry)) v size) (sceneAfter (roomOfTables (now (objects .entry)) v size) (down (stepAt (now (session .entry))) upto) (entries s)) step) × (r .n ≤ 64) ⌝ }
 {
     match step {
         Step::Hide(object) => {
@@ -34,7 +34,7 @@ fn changed(session: &[u8], objects: &[u32], size: Size, upto: usize, s: Shown, s
                 x: 0,
                 y: 0,
             };
-            sift(objects, size, true, false, s, e)
+            removed(objects, size, false, s, e)
         }
         Step::Draw(object, state, place) => {
             let was = last_place(session, objects, size, object, upto);
@@ -45,7 +45,7 @@ fn changed(session: &[u8], objects: &[u32], size: Size, upto: usize, s: Shown, s
                 x: at.x as u32,
                 y: at.y as u32,
             };
-            let t = sift(objects, size, true, true, s, e);
+            let t = removed(objects, size, true, s, e);
             push_if(true, t, e)
         }
     }
@@ -53,7 +53,7 @@ fn changed(session: &[u8], objects: &[u32], size: Size, upto: usize, s: Shown, s
 
 fn is_covered(objects: &[u32], size: Size, e: Entry, strip: usize) -> bool
     requires { ⌜ (1032 ≤ length (now objects)) × Sizes size ⌝ }
-    ensures { λ r. ⌜ ((v : List ℕ) → r ≡ covers (tabled (now (objects .entry)) v size) e strip) ⌝ }
+    ensures { λ r. ⌜ ((v : List ℕ) → r ≡ covers (roomOfTables (now (objects .entry)) v size) e strip) ⌝ }
 {
     let first = wide(e.x) / 8;
     let strips = cell(objects, size, e.object, 3) / 8;
@@ -63,7 +63,7 @@ fn is_covered(objects: &[u32], size: Size, e: Entry, strip: usize) -> bool
 // Some entry of the list covers the strip.
 fn some_covers(objects: &[u32], size: Size, s: Shown, strip: usize) -> bool
     requires { ⌜ (1032 ≤ length (now objects)) × Sizes size × (s .n ≤ 64) ⌝ }
-    ensures { λ r. ⌜ ((v : List ℕ) → r ≡ some (λ e. covers (tabled (now (objects .entry)) v size) e strip) (entries s)) ⌝ }
+    ensures { λ r. ⌜ ((v : List ℕ) → r ≡ some (λ e. covers (roomOfTables (now (objects .entry)) v size) e strip) (entries s)) ⌝ }
 {
     let n = s.n;
     let mut found = false;
@@ -89,7 +89,7 @@ fn bit(b: bool) -> u8
 // A byte for each of 128 strips: 1 where an entry of the list covers it, else 0.
 fn mark_strips(strips: &mut [u8], objects: &[u32], size: Size, s: Shown)
     requires { ⌜ (128 ≤ length (now strips)) × (1032 ≤ length (now objects)) × Sizes size × (s .n ≤ 64) ⌝ }
-    ensures { λ r. ⌜ ((v : List ℕ) → now (strips .exit) ≡ flagged (λ k. some (λ e. covers (tabled (now (objects .entry)) v size) e k) (entries s)) 128 (now (strips .entry))) ⌝ }
+    ensures { λ r. ⌜ ((v : List ℕ) → now (strips .exit) ≡ flagged (λ k. some (λ e. covers (roomOfTables (now (objects .entry)) v size) e k) (entries s)) 128 (now (strips .entry))) ⌝ }
 {
     let mut k = 0;
     while k < 128 {
@@ -110,8 +110,8 @@ pub fn touched(
     s: Shown,
     step: Step,
 )
-    requires { ⌜ (128 ≤ length (now strips)) × (upto ≤ 64) × (450 ≤ length (now session)) × (1032 ≤ length (now objects)) × Sizes size × (s .n < 64) × ((v : List ℕ) × (refusal (tabled (now objects) v size) upto (sceneAfter (tabled (now objects) v size) (down (stepAt (now session)) upto) (entries s)) step ≡ 0)) ⌝ }
-    ensures { λ r. ⌜ ((v : List ℕ) → now (strips .exit) ≡ flagged (touches (tabled (now (objects .entry)) v size) (sceneAfter (tabled (now (objects .entry)) v size) (down (stepAt (now (session .entry))) upto) (entries s)) step) 128 (now (strips .entry))) ⌝ }
+    requires { ⌜ (128 ≤ length (now strips)) × (upto ≤ 64) × (450 ≤ length (now session)) × (1032 ≤ length (now objects)) × Sizes size × (s .n < 64) × ((v : List ℕ) × (refusal (roomOfTables (now objects) v size) upto (sceneAfter (roomOfTables (now objects) v size) (down (stepAt (now session)) upto) (entries s)) step ≡ 0)) ⌝ }
+    ensures { λ r. ⌜ ((v : List ℕ) → now (strips .exit) ≡ flagged (touches (roomOfTables (now (objects .entry)) v size) (sceneAfter (roomOfTables (now (objects .entry)) v size) (down (stepAt (now (session .entry))) upto) (entries s)) step) 128 (now (strips .entry))) ⌝ }
 {
     let t = changed(session, objects, size, upto, s, step);
     mark_strips(strips, objects, size, t);

@@ -39,7 +39,7 @@ use Rattle.scene.specs.declared.Place.{Place}
 use Rattle.scene.specs.declared.Step.{Step}
 use Rattle.scene.specs.declared.Step.the-variants as step
 use Rattle.stored.specs.Bytes.{down, stepAt, readable}
-use Rattle.replay.specs.Tables.{cellOf, verdictOf, draws, names, sized, Knows}
+use Rattle.replay.specs.Tables.{cellOf, verdictOf, draws, names, sized, TablesAgree}
 use Rattle.replay.proofs.TablesLaws.{cell-none, cell-row, cell-past, verdict-none, verdict-past, verdict-zero, verdict-over, verdict-cell}
 use Rattle.layers.specs.Decoded.{decoded}
 use Rattle.layers.specs.Ready.{Ready}
@@ -482,9 +482,9 @@ module _ (s : List ℕ) (r : Room) (t : List ℕ) (all : r .objects ≡ objectCo
     known-fault o st n (inside i) d z = j .right o st i (j .done o st i n) .own d z ∙ inside-cell o st i
     known-fault o st n (outside e d) d′ z = absurd (false≢true (d ∙ d′))
 
-    pub judged-knows : Knows (decoded s r) t v (sizeOf r) h
+    pub judged-agree : TablesAgree (decoded s r) t v (sizeOf r) h
     unfolding decoded
-    judged-knows =
+    judged-agree =
         let g = ready .gathered in
         record {
           strips = refl;

@@ -11,7 +11,7 @@ ghost use Rattle.scene.specs.declared.Place as place;
 ghost use Rattle.scene.specs.declared.Step as steps;
 ghost use Rattle.scene.specs.declared.Step.the-variants as variants;
 ghost use Rattle.stored.specs.Bytes.{readable};
-ghost use Rattle.replay.specs.Tables.{Knows};
+ghost use Rattle.replay.specs.Tables.{TablesAgree};
 ghost use Rattle.verdict.specs.Size.{sizeOf};
 ghost use Rattle.verdict.specs.Verdict.{Right, Judged};
 use block::Found;
@@ -120,7 +120,7 @@ fn judge_steps(room: &[u8], r: Room, table: &[u32], session: &[u8], verdicts: &m
 pub fn judge_history(room: &[u8], r: Room, table: &[u32], session: &[u8], verdicts: &mut [u8])
     requires { ⌜ Ready (now room) r (now table) × (r .objects ≡ objectCount (now room)) ⌝ }
     requires { ⌜ (450 ≤ length (now session)) × (1290 ≤ length (now verdicts)) ⌝ }
-    ensures { λ _. ⌜ Knows (decoded (now (room .entry)) r) (now (table .entry)) (now (verdicts .exit)) (sizeOf r) (readable (now (session .entry))) ⌝ }
+    ensures { λ _. ⌜ TablesAgree (decoded (now (room .entry)) r) (now (table .entry)) (now (verdicts .exit)) (sizeOf r) (readable (now (session .entry))) ⌝ }
 {
     judge_steps(room, r, table, session, verdicts);
 }
@@ -129,7 +129,7 @@ pub fn judge_history(room: &[u8], r: Room, table: &[u32], session: &[u8], verdic
 pub fn judge(room: &[u8], r: Room, table: &[u32], session: &[u8], step: Step, verdicts: &mut [u8])
     requires { ⌜ Ready (now room) r (now table) × (r .objects ≡ objectCount (now room)) ⌝ }
     requires { ⌜ (450 ≤ length (now session)) × (1290 ≤ length (now verdicts)) ⌝ }
-    ensures { λ _. ⌜ Knows (decoded (now (room .entry)) r) (now (table .entry)) (now (verdicts .exit)) (sizeOf r) (step ∷ readable (now (session .entry))) ⌝ }
+    ensures { λ _. ⌜ TablesAgree (decoded (now (room .entry)) r) (now (table .entry)) (now (verdicts .exit)) (sizeOf r) (step ∷ readable (now (session .entry))) ⌝ }
 {
     judge_steps(room, r, table, session, verdicts);
     judge_step(room, r, table, step, verdicts);

@@ -2,7 +2,7 @@ use Rattle.stored.specs.Bytes.{entries, putShown}
 use Rattle.play.proofs.MakeLaws.{before-zero, listed, make-number, refused-session, refused-pixels, refused-masks, made-session, made-fine, made-pixels, made-masks}
 use Rattle.layers.specs.Decoded.{decoded}
 use Rattle.session.proofs.Caller.{step-ready}
-use Rattle.replay.specs.Tables.{tabled}
+use Rattle.replay.specs.Tables.{roomOfTables}
 use Rattle.room.specs.Test.{strips}
 use lib.ListN.{length, getD}
 use denote.Ref.{now}
@@ -23,11 +23,11 @@ judge-requires c κs = search needs
 size-of-requires : tie.Need-size-of-requires
 size-of-requires c κs = search needs
 
-slice-aggregate-settled : tie.Need-slice-aggregate-settled
-slice-aggregate-settled c = search needs
+slice-aggregate-valid-shown : tie.Need-slice-aggregate-valid-shown
+slice-aggregate-valid-shown c = search needs
 
-settled-requires : tie.Need-settled-requires
-settled-requires c κs =
+valid-shown-requires : tie.Need-valid-shown-requires
+valid-shown-requires c κs =
     let sound = c .before .before .before .before .before .before .before .before .before .before .before .before .pre .0 .0 .sound in
     let e = c .before .before .size-of .ensures in
     (c .before .before .before .before .before .before .before .before .before .before .before .before .pre .0 .2, c .before .before .before .before .before .before .before .before .before .before .before .before .pre .0 .0 .gathered .long, omega (arith, c .before .before .before .before .judge .kept .1 .1 .1 .1 .1 .0), rw e (omega (arith, sound .widest), sound .highest, sound .counted))
@@ -39,7 +39,7 @@ plan-on-requires : tie.Need-plan-on-requires
 plan-on-requires c κs =
     let sound = c .before .before .before .before .before .before .before .before .before .before .before .before .before .before .before .pre .0 .0 .sound in
     let e = c .before .before .before .before .before .size-of .ensures in
-    (c .before .before .before .before .before .before .before .before .before .before .before .before .before .before .before .pre .0 .2, c .before .before .before .before .before .before .before .before .before .before .before .before .before .before .before .pre .0 .0 .gathered .long, omega (arith, c .before .before .before .before .before .before .before .judge .kept .1 .1 .1 .1 .1 .0), rw e (omega (arith, sound .widest), sound .highest, sound .counted), c .before .before .settled .ensures .0, c .before .before .settled .ensures .1, c .before .before .settled .ensures .2)
+    (c .before .before .before .before .before .before .before .before .before .before .before .before .before .before .before .pre .0 .2, c .before .before .before .before .before .before .before .before .before .before .before .before .before .before .before .pre .0 .0 .gathered .long, omega (arith, c .before .before .before .before .before .before .before .judge .kept .1 .1 .1 .1 .1 .0), rw e (omega (arith, sound .widest), sound .highest, sound .counted), c .before .before .valid-shown .ensures .0, c .before .before .valid-shown .ensures .1, c .before .before .valid-shown .ensures .2)
 
 cast-result : tie.Need-cast-result
 cast-result c = search needs
@@ -52,15 +52,15 @@ returns c =
     let a = c .before .before .before .before .before .before .before .before .before .before .before .before .before .before .before .before .before .args in
     let l = now (a .session) in
     let v = c .before .before .before .before .before .before .before .before .before .judge .last .1 .1 .1 .1 .1 .0 in
-    let p = rw (c .before .before .before .before .before .before .before .size-of .ensures) at (c .before .before .before .before .settled .ensures .0) in
+    let p = rw (c .before .before .before .before .before .before .before .size-of .ensures) at (c .before .before .before .before .valid-shown .ensures .0) in
     let q = rw (c .before .before .before .before .before .before .before .size-of .ensures) at (c .before .plan-on .ensures .0) in
     let f : c .before .plan-on .result .refusal ≡ 0 → ⊥ = λ z. omega (arith, c .if1 .taken) in (
-      make-number (now (a .room)) (a .r) (now (a .table)) v l (now (a .pixels)) (now (a .masks)) (a .step) (c .before .before .before .before .before .before .before .before .before .before .before .before .before .before .before .before .before .pre .0 .2) (c .before .before .before .before .before .before .before .before .before .judge .ensures) (c .before .before .before .before .settled .result) (c .before .plan-on .result) p q,
+      make-number (now (a .room)) (a .r) (now (a .table)) v l (now (a .pixels)) (now (a .masks)) (a .step) (c .before .before .before .before .before .before .before .before .before .before .before .before .before .before .before .before .before .pre .0 .2) (c .before .before .before .before .before .before .before .before .before .judge .ensures) (c .before .before .before .before .valid-shown .result) (c .before .plan-on .result) p q,
       (
-        refused-session (now (a .room)) (a .r) (now (a .table)) v l (now (a .pixels)) (now (a .masks)) (a .step) (c .before .before .before .before .before .before .before .before .before .before .before .before .before .before .before .before .before .pre .0 .2) (c .before .before .before .before .before .before .before .before .before .judge .ensures) (c .before .before .before .before .settled .result) (c .before .plan-on .result) p q f,
+        refused-session (now (a .room)) (a .r) (now (a .table)) v l (now (a .pixels)) (now (a .masks)) (a .step) (c .before .before .before .before .before .before .before .before .before .before .before .before .before .before .before .before .before .pre .0 .2) (c .before .before .before .before .before .before .before .before .before .judge .ensures) (c .before .before .before .before .valid-shown .result) (c .before .plan-on .result) p q f,
         (
-          refused-pixels (now (a .room)) (a .r) (now (a .table)) v l (now (a .pixels)) (now (a .masks)) (a .step) (c .before .before .before .before .before .before .before .before .before .before .before .before .before .before .before .before .before .pre .0 .2) (c .before .before .before .before .before .before .before .before .before .judge .ensures) (c .before .before .before .before .settled .result) (c .before .plan-on .result) p q f,
-          refused-masks (now (a .room)) (a .r) (now (a .table)) v l (now (a .pixels)) (now (a .masks)) (a .step) (c .before .before .before .before .before .before .before .before .before .before .before .before .before .before .before .before .before .pre .0 .2) (c .before .before .before .before .before .before .before .before .before .judge .ensures) (c .before .before .before .before .settled .result) (c .before .plan-on .result) p q f,
+          refused-pixels (now (a .room)) (a .r) (now (a .table)) v l (now (a .pixels)) (now (a .masks)) (a .step) (c .before .before .before .before .before .before .before .before .before .before .before .before .before .before .before .before .before .pre .0 .2) (c .before .before .before .before .before .before .before .before .before .judge .ensures) (c .before .before .before .before .valid-shown .result) (c .before .plan-on .result) p q f,
+          refused-masks (now (a .room)) (a .r) (now (a .table)) v l (now (a .pixels)) (now (a .masks)) (a .step) (c .before .before .before .before .before .before .before .before .before .before .before .before .before .before .before .before .before .pre .0 .2) (c .before .before .before .before .before .before .before .before .before .judge .ensures) (c .before .before .before .before .valid-shown .result) (c .before .plan-on .result) p q f,
         ),
       ),
     )
@@ -82,12 +82,12 @@ touched-requires c κs =
     let l = now (a .session) in
     let v = c .before .before .before .before .before .before .before .before .before .before .before .before .before .judge .last .1 .1 .1 .1 .1 .0 in
     let y = c .before .before .before .before .if1 .left in
-    let T = tabled (now (a .table)) v (c .before .before .before .before .before .before .before .before .before .before .before .size-of .result) in
-    let z = before-zero T l (a .step) (c .before .before .before .before .before .before .before .before .settled .result) (c .before .before .before .before .before .plan-on .result) (c .before .before .before .before .before .before .before .before .settled .ensures .0) (c .before .before .before .before .before .plan-on .ensures .0) y in
+    let T = roomOfTables (now (a .table)) v (c .before .before .before .before .before .before .before .before .before .before .before .size-of .result) in
+    let z = before-zero T l (a .step) (c .before .before .before .before .before .before .before .before .valid-shown .result) (c .before .before .before .before .before .plan-on .result) (c .before .before .before .before .before .before .before .before .valid-shown .ensures .0) (c .before .before .before .before .before .plan-on .ensures .0) y in
     let n : c .before .before .count .result ≡ getD l 0 0 = c .before .before .count .ensures .0 in
     let few = c .before .before .before .before .before .plan-on .ensures .2 y .0 in
-    let short = c .before .before .before .before .before .before .before .before .settled .ensures .2 z .0 in
-    let ready = step-ready (decoded (now (a .room)) (a .r)) (now (a .table)) v (c .before .before .before .before .before .before .before .before .before .before .before .size-of .result) l (c .before .before .before .before .before .before .before .before .settled .result) (c .before .before .before .before .before .plan-on .result) (a .step) (c .before .before .before .before .before .before .before .before .settled .ensures .0) z (c .before .before .before .before .before .plan-on .ensures .0) y in (
+    let short = c .before .before .before .before .before .before .before .before .valid-shown .ensures .2 z .0 in
+    let ready = step-ready (decoded (now (a .room)) (a .r)) (now (a .table)) v (c .before .before .before .before .before .before .before .before .before .before .before .size-of .result) l (c .before .before .before .before .before .before .before .before .valid-shown .result) (c .before .before .before .before .before .plan-on .result) (a .step) (c .before .before .before .before .before .before .before .before .valid-shown .ensures .0) z (c .before .before .before .before .before .plan-on .ensures .0) y in (
       omega arith,
       omega arith,
       c .before .before .before .before .before .before .before .before .before .before .before .before .before .before .before .before .before .before .before .before .before .pre .0 .2,
@@ -126,10 +126,10 @@ rebuild-requires c κs =
     let sound = c .before .before .before .before .before .before .before .before .before .before .before .before .before .before .before .before .before .before .before .before .before .before .before .before .before .before .before .before .before .before .before .before .before .before .before .before .before .before .pre .0 .0 .sound in
     let l = now (a .session) in
     let v = c .before .before .before .before .before .before .before .before .before .before .before .before .before .before .before .before .before .before .before .before .before .before .before .before .before .before .before .before .before .before .judge .last .1 .1 .1 .1 .1 .0 in
-    let p = rw (c .before .before .before .before .before .before .before .before .before .before .before .before .before .before .before .before .before .before .before .before .before .before .before .before .before .before .before .before .size-of .ensures) at (c .before .before .before .before .before .before .before .before .before .before .before .before .before .before .before .before .before .before .before .before .before .before .before .before .before .settled .ensures .0) in
+    let p = rw (c .before .before .before .before .before .before .before .before .before .before .before .before .before .before .before .before .before .before .before .before .before .before .before .before .before .before .before .before .size-of .ensures) at (c .before .before .before .before .before .before .before .before .before .before .before .before .before .before .before .before .before .before .before .before .before .before .before .before .before .valid-shown .ensures .0) in
     let q = rw (c .before .before .before .before .before .before .before .before .before .before .before .before .before .before .before .before .before .before .before .before .before .before .before .before .before .before .before .before .size-of .ensures) at (c .before .before .before .before .before .before .before .before .before .before .before .before .before .before .before .before .before .before .before .before .before .before .plan-on .ensures .0) in
     let y = c .before .before .before .before .before .before .before .before .before .before .before .before .before .before .before .before .before .before .before .before .before .if1 .left in
-    let fine = made-fine (now (a .room)) (a .r) (now (a .table)) v l (now (a .pixels)) (now (a .masks)) (a .step) (c .before .before .before .before .before .before .before .before .before .before .before .before .before .before .before .before .before .before .before .before .before .before .before .before .before .before .before .before .before .before .before .before .before .before .before .before .before .before .pre .0 .2) (c .before .before .before .before .before .before .before .before .before .before .before .before .before .before .before .before .before .before .before .before .before .before .before .before .before .before .before .before .before .before .judge .ensures) (c .before .before .before .before .before .before .before .before .before .before .before .before .before .before .before .before .before .before .before .before .before .before .before .before .before .settled .result) (c .before .before .before .before .before .before .before .before .before .before .before .before .before .before .before .before .before .before .before .before .before .before .plan-on .result) p q y in
+    let fine = made-fine (now (a .room)) (a .r) (now (a .table)) v l (now (a .pixels)) (now (a .masks)) (a .step) (c .before .before .before .before .before .before .before .before .before .before .before .before .before .before .before .before .before .before .before .before .before .before .before .before .before .before .before .before .before .before .before .before .before .before .before .before .before .before .pre .0 .2) (c .before .before .before .before .before .before .before .before .before .before .before .before .before .before .before .before .before .before .before .before .before .before .before .before .before .before .before .before .before .before .judge .ensures) (c .before .before .before .before .before .before .before .before .before .before .before .before .before .before .before .before .before .before .before .before .before .before .before .before .before .valid-shown .result) (c .before .before .before .before .before .before .before .before .before .before .before .before .before .before .before .before .before .before .before .before .before .before .plan-on .result) p q y in
     let room : 4 * c .before .before .before .before .before .before .before .before .before .before .before .before .before .before .before .before .before .before .before .before .before .before .plan-on .result .n ≤ length (c .before .before .before .before .before .before .before .before .before .before .before .before .before .flatten .last .1 .0) = omega (arith, c .before .before .before .before .before .before .before .before .before .before .before .before .before .flatten .kept .1 .0, c .before .before .before .before .before .before .before .before .before .before .before .before .before .before .before .before .before .before .before .before .before .before .plan-on .ensures .1) in
     let all = listed (now (a .room)) (a .r) (c .before .before .before .before .before .before .before .before .before .before .before .before .before .flatten .last .1 .0) (c .before .before .before .before .before .before .before .before .before .before .before .before .before .before .before .before .before .before .before .before .before .before .plan-on .result .n) _ room (c .before .before .before .before .before .before .before .before .before .before .before .before .before .flatten .ensures) fine in
     let few : strips (a .r) ≤ length (c .before .before .before .before .before .before .before .before .before .before .before .before .before .before .before .before .touched .last .0) = omega (arith, c .before .before .before .before .before .before .before .before .before .before .before .before .before .before .before .before .touched .kept .0, sound .widest) in
@@ -150,19 +150,19 @@ returns-2 c =
     let sound = c .before .before .before .before .before .before .before .before .before .before .before .before .before .before .before .before .before .before .before .before .before .before .before .before .before .before .before .before .before .before .before .before .before .before .before .before .before .before .before .before .before .before .before .pre .0 .0 .sound in
     let l = now (a .session) in
     let v = c .before .before .before .before .before .before .before .before .before .before .before .before .before .before .before .before .before .before .before .before .before .before .before .before .before .before .before .before .before .before .before .before .before .before .before .judge .last .1 .1 .1 .1 .1 .0 in
-    let p = rw (c .before .before .before .before .before .before .before .before .before .before .before .before .before .before .before .before .before .before .before .before .before .before .before .before .before .before .before .before .before .before .before .before .before .size-of .ensures) at (c .before .before .before .before .before .before .before .before .before .before .before .before .before .before .before .before .before .before .before .before .before .before .before .before .before .before .before .before .before .before .settled .ensures .0) in
+    let p = rw (c .before .before .before .before .before .before .before .before .before .before .before .before .before .before .before .before .before .before .before .before .before .before .before .before .before .before .before .before .before .before .before .before .before .size-of .ensures) at (c .before .before .before .before .before .before .before .before .before .before .before .before .before .before .before .before .before .before .before .before .before .before .before .before .before .before .before .before .before .before .valid-shown .ensures .0) in
     let q = rw (c .before .before .before .before .before .before .before .before .before .before .before .before .before .before .before .before .before .before .before .before .before .before .before .before .before .before .before .before .before .before .before .before .before .size-of .ensures) at (c .before .before .before .before .before .before .before .before .before .before .before .before .before .before .before .before .before .before .before .before .before .before .before .before .before .before .before .plan-on .ensures .0) in
     let y = c .before .before .before .before .before .before .before .before .before .before .before .before .before .before .before .before .before .before .before .before .before .before .before .before .before .before .if1 .left in
     let flags = rw (c .before .before .before .before .before .before .before .before .before .before .before .before .before .before .before .before .before .before .before .before .before .before .before .before .before .before .before .before .before .before .before .before .before .size-of .ensures, c .before .before .before .before .before .before .before .before .before .before .before .before .before .before .before .before .before .before .before .before .before .before .before .before .count .ensures .0) at (c .before .before .before .before .before .before .before .before .before .before .before .before .before .before .before .before .before .before .before .before .before .touched .ensures v) in
     let few : strips (a .r) ≤ 128 = omega (arith, sound .widest) in (
-      sym y ∙ make-number (now (a .room)) (a .r) (now (a .table)) v l (now (a .pixels)) (now (a .masks)) (a .step) (c .before .before .before .before .before .before .before .before .before .before .before .before .before .before .before .before .before .before .before .before .before .before .before .before .before .before .before .before .before .before .before .before .before .before .before .before .before .before .before .before .before .before .before .pre .0 .2) (c .before .before .before .before .before .before .before .before .before .before .before .before .before .before .before .before .before .before .before .before .before .before .before .before .before .before .before .before .before .before .before .before .before .before .before .judge .ensures) (c .before .before .before .before .before .before .before .before .before .before .before .before .before .before .before .before .before .before .before .before .before .before .before .before .before .before .before .before .before .before .settled .result) (c .before .before .before .before .before .before .before .before .before .before .before .before .before .before .before .before .before .before .before .before .before .before .before .before .before .before .before .plan-on .result) p q,
+      sym y ∙ make-number (now (a .room)) (a .r) (now (a .table)) v l (now (a .pixels)) (now (a .masks)) (a .step) (c .before .before .before .before .before .before .before .before .before .before .before .before .before .before .before .before .before .before .before .before .before .before .before .before .before .before .before .before .before .before .before .before .before .before .before .before .before .before .before .before .before .before .before .pre .0 .2) (c .before .before .before .before .before .before .before .before .before .before .before .before .before .before .before .before .before .before .before .before .before .before .before .before .before .before .before .before .before .before .before .before .before .before .before .judge .ensures) (c .before .before .before .before .before .before .before .before .before .before .before .before .before .before .before .before .before .before .before .before .before .before .before .before .before .before .before .before .before .before .valid-shown .result) (c .before .before .before .before .before .before .before .before .before .before .before .before .before .before .before .before .before .before .before .before .before .before .before .before .before .before .before .plan-on .result) p q,
       (
         c .before .before .before .before .before .before .before .before .before .before .before .store-shown .ensures ∙ ap (λ (x : List ℕ). putShown x (entries (c .before .before .before .before .before .before .before .before .before .before .before .before .before .before .before .before .before .before .before .before .before .before .before .before .before .before .before .plan-on .result))) (c .before .before .before .before .before .before .before .before .before .before .before .before .before .before .before .store-step .ensures)
-            ∙ made-session (now (a .room)) (a .r) (now (a .table)) v l (now (a .pixels)) (now (a .masks)) (a .step) (c .before .before .before .before .before .before .before .before .before .before .before .before .before .before .before .before .before .before .before .before .before .before .before .before .before .before .before .before .before .before .before .before .before .before .before .before .before .before .before .before .before .before .before .pre .0 .2) (c .before .before .before .before .before .before .before .before .before .before .before .before .before .before .before .before .before .before .before .before .before .before .before .before .before .before .before .before .before .before .before .before .before .before .before .judge .ensures) (c .before .before .before .before .before .before .before .before .before .before .before .before .before .before .before .before .before .before .before .before .before .before .before .before .before .before .before .before .before .before .settled .result) (c .before .before .before .before .before .before .before .before .before .before .before .before .before .before .before .before .before .before .before .before .before .before .before .before .before .before .before .plan-on .result) p q y,
+            ∙ made-session (now (a .room)) (a .r) (now (a .table)) v l (now (a .pixels)) (now (a .masks)) (a .step) (c .before .before .before .before .before .before .before .before .before .before .before .before .before .before .before .before .before .before .before .before .before .before .before .before .before .before .before .before .before .before .before .before .before .before .before .before .before .before .before .before .before .before .before .pre .0 .2) (c .before .before .before .before .before .before .before .before .before .before .before .before .before .before .before .before .before .before .before .before .before .before .before .before .before .before .before .before .before .before .before .before .before .before .before .judge .ensures) (c .before .before .before .before .before .before .before .before .before .before .before .before .before .before .before .before .before .before .before .before .before .before .before .before .before .before .before .before .before .before .valid-shown .result) (c .before .before .before .before .before .before .before .before .before .before .before .before .before .before .before .before .before .before .before .before .before .before .before .before .before .before .before .plan-on .result) p q y,
         (
-          made-pixels (now (a .room)) (a .r) (now (a .table)) v l (now (a .pixels)) (now (a .masks)) (a .step) (c .before .before .before .before .before .before .before .before .before .before .before .before .before .before .before .before .before .before .before .before .before .before .before .before .before .before .before .before .before .before .before .before .before .before .before .before .before .before .before .before .before .before .before .pre .0 .2) (c .before .before .before .before .before .before .before .before .before .before .before .before .before .before .before .before .before .before .before .before .before .before .before .before .before .before .before .before .before .before .before .before .before .before .before .judge .ensures) (c .before .before .before .before .before .before .before .before .before .before .before .before .before .before .before .before .before .before .before .before .before .before .before .before .before .before .before .before .before .before .settled .result) (c .before .before .before .before .before .before .before .before .before .before .before .before .before .before .before .before .before .before .before .before .before .before .before .before .before .before .before .plan-on .result) p q y
+          made-pixels (now (a .room)) (a .r) (now (a .table)) v l (now (a .pixels)) (now (a .masks)) (a .step) (c .before .before .before .before .before .before .before .before .before .before .before .before .before .before .before .before .before .before .before .before .before .before .before .before .before .before .before .before .before .before .before .before .before .before .before .before .before .before .before .before .before .before .before .pre .0 .2) (c .before .before .before .before .before .before .before .before .before .before .before .before .before .before .before .before .before .before .before .before .before .before .before .before .before .before .before .before .before .before .before .before .before .before .before .judge .ensures) (c .before .before .before .before .before .before .before .before .before .before .before .before .before .before .before .before .before .before .before .before .before .before .before .before .before .before .before .before .before .before .valid-shown .result) (c .before .before .before .before .before .before .before .before .before .before .before .before .before .before .before .before .before .before .before .before .before .before .before .before .before .before .before .plan-on .result) p q y
               (c .before .before .before .before .before .before .before .before .before .before .before .before .before .before .before .before .before .before .flatten .last .1 .0) _ (c .before .before .before .before .before .before .before .before .before .before .before .before .before .before .before .before .before .before .before .before .before .before .before .before .before .before .before .plan-on .result .n) (c .before .before .before .before .before .before .before .before .before .before .before .before .before .before .before .before .before .before .flatten .ensures) (omega arith) few _ (rw flags at (c .before .before .before .before .rebuild .ensures .0)),
-          made-masks (now (a .room)) (a .r) (now (a .table)) v l (now (a .pixels)) (now (a .masks)) (a .step) (c .before .before .before .before .before .before .before .before .before .before .before .before .before .before .before .before .before .before .before .before .before .before .before .before .before .before .before .before .before .before .before .before .before .before .before .before .before .before .before .before .before .before .before .pre .0 .2) (c .before .before .before .before .before .before .before .before .before .before .before .before .before .before .before .before .before .before .before .before .before .before .before .before .before .before .before .before .before .before .before .before .before .before .before .judge .ensures) (c .before .before .before .before .before .before .before .before .before .before .before .before .before .before .before .before .before .before .before .before .before .before .before .before .before .before .before .before .before .before .settled .result) (c .before .before .before .before .before .before .before .before .before .before .before .before .before .before .before .before .before .before .before .before .before .before .before .before .before .before .before .plan-on .result) p q y
+          made-masks (now (a .room)) (a .r) (now (a .table)) v l (now (a .pixels)) (now (a .masks)) (a .step) (c .before .before .before .before .before .before .before .before .before .before .before .before .before .before .before .before .before .before .before .before .before .before .before .before .before .before .before .before .before .before .before .before .before .before .before .before .before .before .before .before .before .before .before .pre .0 .2) (c .before .before .before .before .before .before .before .before .before .before .before .before .before .before .before .before .before .before .before .before .before .before .before .before .before .before .before .before .before .before .before .before .before .before .before .judge .ensures) (c .before .before .before .before .before .before .before .before .before .before .before .before .before .before .before .before .before .before .before .before .before .before .before .before .before .before .before .before .before .before .valid-shown .result) (c .before .before .before .before .before .before .before .before .before .before .before .before .before .before .before .before .before .before .before .before .before .before .before .before .before .before .before .plan-on .result) p q y
               (c .before .before .before .before .before .before .before .before .before .before .before .before .before .before .before .before .before .before .flatten .last .1 .0) _ (c .before .before .before .before .before .before .before .before .before .before .before .before .before .before .before .before .before .before .before .before .before .before .before .before .before .before .before .plan-on .result .n) (c .before .before .before .before .before .before .before .before .before .before .before .before .before .before .before .before .before .before .flatten .ensures) (omega arith) few _ (rw flags at (c .before .before .before .before .rebuild .ensures .1)),
         ),
       ),
@@ -175,8 +175,8 @@ make-step-spec =
     slice-aggregate-judge
     judge-requires
     size-of-requires
-    slice-aggregate-settled
-    settled-requires
+    slice-aggregate-valid-shown
+    valid-shown-requires
     slice-aggregate-plan-on
     plan-on-requires
     cast-result

@@ -1,7 +1,7 @@
 -- `replay::history::last_place` meets its contract. Assumes nothing.
 use Rattle.replay.specs.Replay.{IsAt}
 use Rattle.stored.specs.Bytes.{stepAt, down}
-use Rattle.replay.specs.Tables.{tabled}
+use Rattle.replay.specs.Tables.{roomOfTables}
 use Rattle.scene.specs.Steps.{bare, replay, applied}
 use Rattle.scene.specs.Painting.{Room}
 use mathlib.Core.Path.{_≡_}
@@ -44,8 +44,8 @@ unfolding replay applied
 loop-again c = (omega arith, c .before .before .before .loop .inv .1, λ room h. rw (add-one (c .before .before .before .loop .i), ← c .before .step-at .ensures) (c .moved .ensures (replay room (bare room) (down (stepAt (c .before .before .before .before .before .before .before .before .args .session .now)) (c .before .before .before .loop .i))) (c .before .before .before .loop .inv .2 room h)))
 
 returns : tie.Need-returns Inv-loop μ-loop
-unfolding bare tabled
-returns c = λ v. let e : c .before .loop .i ≡ c .before .before .before .before .before .before .args .upto = omega arith in rw (← e) (c .before .loop .inv .2 (tabled (c .before .before .before .before .before .before .args .objects .now) v (c .before .before .before .before .before .before .args .size)) (record { x = c .before .before .before .cell .ensures .0; y = c .before .before .cell2 .ensures .0; left = omega (arith, c .before .before .before .cell .ensures .1); upper = omega (arith, c .before .before .cell2 .ensures .1) }))
+unfolding bare roomOfTables
+returns c = λ v. let e : c .before .loop .i ≡ c .before .before .before .before .before .before .args .upto = omega arith in rw (← e) (c .before .loop .inv .2 (roomOfTables (c .before .before .before .before .before .before .args .objects .now) v (c .before .before .before .before .before .before .args .size)) (record { x = c .before .before .before .cell .ensures .0; y = c .before .before .cell2 .ensures .0; left = omega (arith, c .before .before .before .cell .ensures .1); upper = omega (arith, c .before .before .cell2 .ensures .1) }))
 
 pub last-place-spec : {M : Type 1} → statement M
 last-place-spec =

@@ -1,7 +1,7 @@
 -- `replay::history::replayed` meets its contract. Assumes nothing.
 use Rattle.replay.specs.Replay.{Replayed}
 use Rattle.stored.specs.Bytes.{stepAt, down}
-use Rattle.replay.specs.Tables.{tabled}
+use Rattle.replay.specs.Tables.{roomOfTables}
 use Rattle.scene.specs.Steps.{bare, replay, replays}
 use borrow.Author.Tests.{eq-eqb}
 use mathlib.Core.Path.{_≡_}
@@ -12,7 +12,7 @@ use Rattle.replay.proofs.history.replayed.Statement.{statement}
 use Rattle.replay.proofs.history.replayed.Tie as tie
 
 abbrev Inv-loop : tie.InvT-loop
-Inv-loop session objects verdicts size upto s₀ i₀ s i = (i ≤ upto) × (upto ≤ 64) × Replayed (tabled objects verdicts size) (down (stepAt session) i) s
+Inv-loop session objects verdicts size upto s₀ i₀ s i = (i ≤ upto) × (upto ≤ 64) × Replayed (roomOfTables objects verdicts size) (down (stepAt session) i) s
 
 abbrev μ-loop : tie.MeasureT-loop
 μ-loop session objects verdicts size upto s₀ i₀ s i = upto - i

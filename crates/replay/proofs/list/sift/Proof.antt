@@ -7,14 +7,14 @@ use native.Mathlib.Omega.{arith}
 use borrow.Author.Needs.{needs}
 use Rattle.stored.specs.Bytes.{entries}
 use Rattle.replay.specs.Replay.{sifted, goes}
-use Rattle.replay.specs.Tables.{tabled}
+use Rattle.replay.specs.Tables.{roomOfTables}
 use Rattle.stored.proofs.Lists.{length-of-map}
 use Rattle.replay.proofs.Lists.{sifted-none, sifted-more}
 use Rattle.replay.proofs.list.sift.Statement.{statement}
 use Rattle.replay.proofs.list.sift.Tie as tie
 
 abbrev Inv-loop : tie.InvT-loop
-Inv-loop objects size gone boxes e s n t₀ i₀ t i = (i ≤ n) × (n ≤ 64) × (n ≡ s .n) × (length (s .list) ≡ 64) × (t .n ≤ i) × (t .refusal ≡ 0) × ((v : List ℕ) → entries t ≡ sifted gone (goes (tabled objects v size) boxes e) (take i (s .list)))
+Inv-loop objects size gone boxes e s n t₀ i₀ t i = (i ≤ n) × (n ≤ 64) × (n ≡ s .n) × (length (s .list) ≡ 64) × (t .n ≤ i) × (t .refusal ≡ 0) × ((v : List ℕ) → entries t ≡ sifted gone (goes (roomOfTables objects v size) boxes e) (take i (s .list)))
 
 abbrev μ-loop : tie.MeasureT-loop
 μ-loop objects size gone boxes e s n t₀ i₀ t i = n - i
@@ -23,7 +23,7 @@ empty-requires : tie.Need-empty-requires Inv-loop μ-loop
 empty-requires c κs = tt
 
 loop-holds : tie.Need-loop-holds Inv-loop μ-loop
-loop-holds c = (omega arith, c .before .before .pre .2, refl, search (needs, length-of-map), omega arith, c .empty .ensures .2, λ v. c .empty .ensures .0 ∙ sifted-none (c .before .before .args .gone) (goes (tabled (c .before .before .args .objects .now) v (c .before .before .args .size)) (c .before .before .args .boxes) (c .before .before .args .e)))
+loop-holds c = (omega arith, c .before .before .pre .2, refl, search (needs, length-of-map), omega arith, c .empty .ensures .2, λ v. c .empty .ensures .0 ∙ sifted-none (c .before .before .args .gone) (goes (roomOfTables (c .before .before .args .objects .now) v (c .before .before .args .size)) (c .before .before .args .boxes) (c .before .before .args .e)))
 
 mul-f : tie.Need-mul-f Inv-loop μ-loop
 mul-f c = omega arith
@@ -50,7 +50,7 @@ loop-again : tie.Need-loop-again Inv-loop μ-loop
 loop-again c =
     let v = c .before .before .before .before .before .loop .inv in
     let A = c .before .before .before .before .before .before .before .before .args in
-    (omega arith, v .1, v .2, v .3, omega arith, c .push-if .ensures .2 ∙ v .5, λ w. sifted-more (A .gone) (c .before .before .goes .result) (c .before .taken .result) (goes (tabled (A .objects .now) w (A .size)) (A .boxes) (A .e)) (A .t5 .list) (c .before .before .before .before .before .loop .i) _ _ (entries (c .before .before .before .before .before .loop .t)) (omega arith) (c .push-if .ensures .0) (c .before .taken .ensures) (c .before .before .goes .ensures w) (v .6 w))
+    (omega arith, v .1, v .2, v .3, omega arith, c .push-if .ensures .2 ∙ v .5, λ w. sifted-more (A .gone) (c .before .before .goes .result) (c .before .taken .result) (goes (roomOfTables (A .objects .now) w (A .size)) (A .boxes) (A .e)) (A .t5 .list) (c .before .before .before .before .before .loop .i) _ _ (entries (c .before .before .before .before .before .loop .t)) (omega arith) (c .push-if .ensures .0) (c .before .taken .ensures) (c .before .before .goes .ensures w) (v .6 w))
 
 returns : tie.Need-returns Inv-loop μ-loop
 returns c =

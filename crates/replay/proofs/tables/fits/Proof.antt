@@ -1,5 +1,5 @@
 -- `replay::tables::fits` meets its contract. Assumes nothing.
-use Rattle.replay.specs.Tables.{tabled}
+use Rattle.replay.specs.Tables.{roomOfTables}
 use Rattle.scene.specs.Steps.{allowed}
 use borrow.Author.Needs.{needs}
 use Rattle.replay.proofs.tables.fits.Statement.{statement}
@@ -21,7 +21,7 @@ add-result-2 : tie.Need-add-result-2
 add-result-2 c = search needs
 
 returns : tie.Need-returns
-unfolding allowed tabled
+unfolding allowed roomOfTables
 returns c = λ v s. rw (c .before .before .before .cell .ensures .0, c .before .before .cell2 .ensures .0)
 
 pub fits-spec : {M : Type 1} → statement M

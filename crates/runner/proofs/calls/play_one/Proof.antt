@@ -2,7 +2,7 @@
 use Prim.Native.Nat.{_*_}
 use native.Mathlib.Omega.{arith}
 use denote.Ref.{now}
-use Rattle.scene.specs.Session.{make, takeBack}
+use Rattle.scene.specs.declared.Call.the-variants.{Make, TakeBack}
 use Rattle.runner.specs.Run.{lentOf}
 use Rattle.runner.proofs.CodedLaws.{back-call, known-kind}
 use Rattle.runner.proofs.RunLaws.{low-call, one-call}
@@ -21,7 +21,7 @@ take-back-requires c κs = search needs
 
 cast-result : tie.Need-cast-result
 cast-result c =
-    omega (arith, low-call (now (c .before .before .before .before .before .before .before .before .before .before .before .before .before .before .before .before .before .args .room)) (lentOf (now (c .before .before .before .before .before .before .before .before .before .before .before .before .before .before .before .before .before .args .session)) (now (c .before .before .before .before .before .before .before .before .before .before .before .before .before .before .before .before .before .args .pixels)) (now (c .before .before .before .before .before .before .before .before .before .before .before .before .before .before .before .before .before .args .masks))) takeBack, c .before .before .before .before .before .before .take-back .ensures .0)
+    omega (arith, low-call (now (c .before .before .before .before .before .before .before .before .before .before .before .before .before .before .before .before .before .args .room)) (lentOf (now (c .before .before .before .before .before .before .before .before .before .before .before .before .before .before .before .before .before .args .session)) (now (c .before .before .before .before .before .before .before .before .before .before .before .before .before .before .before .before .before .args .pixels)) (now (c .before .before .before .before .before .before .before .before .before .before .before .before .before .before .before .before .before .args .masks))) TakeBack, c .before .before .before .before .before .before .take-back .ensures .0)
 
 same-length : tie.Need-same-length
 same-length c = search needs
@@ -34,7 +34,7 @@ same-length-3 c = search needs
 
 returns : tie.Need-returns
 returns c =
-    let e = known-kind (now (c .before .before .before .before .before .before .before .before .before .before .before .before .before .before .before .before .before .args .calls)) (20 * c .before .before .before .before .before .before .before .before .before .before .before .before .before .before .before .before .before .args .i) _ takeBack (c .before .before .before .before .before .before .before .before .before .before .before .field .ensures) (back-call (c .before .before .before .before .before .before .before .before .before .before .before .field .result) _ _ _ _ (omega (arith, c .before .before .before .before .before .before .before .before .before .before .if1 .taken))) in
+    let e = known-kind (now (c .before .before .before .before .before .before .before .before .before .before .before .before .before .before .before .before .before .args .calls)) (20 * c .before .before .before .before .before .before .before .before .before .before .before .before .before .before .before .before .before .args .i) _ TakeBack (c .before .before .before .before .before .before .before .before .before .before .before .field .ensures) (back-call (c .before .before .before .before .before .before .before .before .before .before .before .field .result) _ _ _ _ (omega (arith, c .before .before .before .before .before .before .before .before .before .before .if1 .taken))) in
     one-call (now (c .before .before .before .before .before .before .before .before .before .before .before .before .before .before .before .before .before .args .room)) (lentOf (now (c .before .before .before .before .before .before .before .before .before .before .before .before .before .before .before .before .before .args .session)) (now (c .before .before .before .before .before .before .before .before .before .before .before .before .before .before .before .before .before .args .pixels)) (now (c .before .before .before .before .before .before .before .before .before .before .before .before .before .before .before .before .before .args .masks))) _ _ _ _ _ _ e (c .before .before .before .before .before .before .take-back .ensures .0) (c .before .before .before .before .before .before .take-back .ensures .1 .0) (c .before .before .before .before .before .before .take-back .ensures .1 .1 .0) (c .before .before .before .before .before .before .take-back .ensures .1 .1 .1)
 
 step-from-requires : tie.Need-step-from-requires
@@ -45,7 +45,7 @@ act-requires c κs = search needs
 
 cast-result-2 : tie.Need-cast-result-2
 cast-result-2 c =
-    omega (arith, low-call (now (c .before .before .before .before .before .before .before .before .before .before .before .before .before .before .before .before .before .before .args .room)) (lentOf (now (c .before .before .before .before .before .before .before .before .before .before .before .before .before .before .before .before .before .before .args .session)) (now (c .before .before .before .before .before .before .before .before .before .before .before .before .before .before .before .before .before .before .args .pixels)) (now (c .before .before .before .before .before .before .before .before .before .before .before .before .before .before .before .before .before .before .args .masks))) (make (c .before .before .before .before .before .before .before .before .before .before .step-from .result)), c .before .before .before .before .before .before .act .ensures .0)
+    omega (arith, low-call (now (c .before .before .before .before .before .before .before .before .before .before .before .before .before .before .before .before .before .before .args .room)) (lentOf (now (c .before .before .before .before .before .before .before .before .before .before .before .before .before .before .before .before .before .before .args .session)) (now (c .before .before .before .before .before .before .before .before .before .before .before .before .before .before .before .before .before .before .args .pixels)) (now (c .before .before .before .before .before .before .before .before .before .before .before .before .before .before .before .before .before .before .args .masks))) (Make (c .before .before .before .before .before .before .before .before .before .before .step-from .result)), c .before .before .before .before .before .before .act .ensures .0)
 
 same-length-4 : tie.Need-same-length-4
 same-length-4 c = search needs

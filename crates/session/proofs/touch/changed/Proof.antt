@@ -4,7 +4,7 @@ use Rattle.stored.specs.Bytes.{entries, stepAt, down}
 use Rattle.replay.specs.Replay.{sceneAfter}
 use Rattle.scene.specs.declared.Step.{Step}
 use Rattle.scene.specs.Steps.{Scene, refusal}
-use Rattle.replay.specs.Tables.{tabled}
+use Rattle.replay.specs.Tables.{roomOfTables}
 use mathlib.Core.Path.{_≡_, subst}
 use native.Mathlib.Omega.{arith}
 use borrow.Author.Needs.{needs}
@@ -14,8 +14,8 @@ use Rattle.session.proofs.touch.changed.Tie as tie
 enum-known-step : tie.Need-enum-known-step
 enum-known-step c = search needs
 
-sift-requires : tie.Need-sift-requires
-sift-requires c κs = search needs
+removed-requires : tie.Need-removed-requires
+removed-requires c κs = search needs
 
 enum-known-step-2 : tie.Need-enum-known-step-2
 enum-known-step-2 c = search needs
@@ -30,20 +30,20 @@ cast-t17 : tie.Need-cast-t17
 cast-t17 c =
     let A = c .before .before .before .before .before .before .before .before .args in
     let v = c .before .before .before .before .before .before .before .before .pre .5 .0 in
-    let sc : Scene = sceneAfter (tabled (A .objects .now) v (A .size)) (down (stepAt (A .session .now)) (A .upto)) (entries (A .s)) in
-    let b = draw-near (A .objects .now) v (A .size) (c .before .before .before .before .before .before .before .before .pre .3) (A .upto) sc (c .before .before .before .before .step2 .given .0 .0) (c .before .before .before .before .step2 .given .0 .1 .0) (c .before .before .before .before .step2 .given .0 .1 .1 .0) (c .before .placed .result) (subst (λ (t : Step). refusal (tabled (A .objects .now) v (A .size)) (A .upto) sc t ≡ 0) (c .before .before .before .before .step2 .given .1) (c .before .before .before .before .before .before .before .before .pre .5 .1)) (c .before .placed .ensures sc (c .before .before .before .before .step2 .given .0 .0) (c .before .before .last-place .ensures v)) in
+    let sc : Scene = sceneAfter (roomOfTables (A .objects .now) v (A .size)) (down (stepAt (A .session .now)) (A .upto)) (entries (A .s)) in
+    let b = draw-near (A .objects .now) v (A .size) (c .before .before .before .before .before .before .before .before .pre .3) (A .upto) sc (c .before .before .before .before .step2 .given .0 .0) (c .before .before .before .before .step2 .given .0 .1 .0) (c .before .before .before .before .step2 .given .0 .1 .1 .0) (c .before .placed .result) (subst (λ (t : Step). refusal (roomOfTables (A .objects .now) v (A .size)) (A .upto) sc t ≡ 0) (c .before .before .before .before .step2 .given .1) (c .before .before .before .before .before .before .before .before .pre .5 .1)) (c .before .placed .ensures sc (c .before .before .before .before .step2 .given .0 .0) (c .before .before .last-place .ensures v)) in
     omega arith
 
 cast-t18 : tie.Need-cast-t18
 cast-t18 c =
     let A = c .before .before .before .before .before .before .before .before .before .args in
     let v = c .before .before .before .before .before .before .before .before .before .pre .5 .0 in
-    let sc : Scene = sceneAfter (tabled (A .objects .now) v (A .size)) (down (stepAt (A .session .now)) (A .upto)) (entries (A .s)) in
-    let b = draw-near (A .objects .now) v (A .size) (c .before .before .before .before .before .before .before .before .before .pre .3) (A .upto) sc (c .before .before .before .before .before .step2 .given .0 .0) (c .before .before .before .before .before .step2 .given .0 .1 .0) (c .before .before .before .before .before .step2 .given .0 .1 .1 .0) (c .before .before .placed .result) (subst (λ (t : Step). refusal (tabled (A .objects .now) v (A .size)) (A .upto) sc t ≡ 0) (c .before .before .before .before .before .step2 .given .1) (c .before .before .before .before .before .before .before .before .before .pre .5 .1)) (c .before .before .placed .ensures sc (c .before .before .before .before .before .step2 .given .0 .0) (c .before .before .before .last-place .ensures v)) in
+    let sc : Scene = sceneAfter (roomOfTables (A .objects .now) v (A .size)) (down (stepAt (A .session .now)) (A .upto)) (entries (A .s)) in
+    let b = draw-near (A .objects .now) v (A .size) (c .before .before .before .before .before .before .before .before .before .pre .3) (A .upto) sc (c .before .before .before .before .before .step2 .given .0 .0) (c .before .before .before .before .before .step2 .given .0 .1 .0) (c .before .before .before .before .before .step2 .given .0 .1 .1 .0) (c .before .before .placed .result) (subst (λ (t : Step). refusal (roomOfTables (A .objects .now) v (A .size)) (A .upto) sc t ≡ 0) (c .before .before .before .before .before .step2 .given .1) (c .before .before .before .before .before .before .before .before .before .pre .5 .1)) (c .before .before .placed .ensures sc (c .before .before .before .before .before .step2 .given .0 .0) (c .before .before .before .last-place .ensures v)) in
     omega arith
 
-sift-requires-2 : tie.Need-sift-requires-2
-sift-requires-2 c κs = search needs
+removed-requires-2 : tie.Need-removed-requires-2
+removed-requires-2 c κs = search needs
 
 push-if-requires : tie.Need-push-if-requires
 push-if-requires c κs = search needs
@@ -51,25 +51,25 @@ push-if-requires c κs = search needs
 returns : tie.Need-returns
 returns c =
     let A = c .before .before .before .before .before .before .args in
-    (λ v. rw (c .before .before .step .given .1) (hide-changed (tabled (A .objects .now) v (A .size)) (sceneAfter (tabled (A .objects .now) v (A .size)) (down (stepAt (A .session .now)) (A .upto)) (entries (A .s))) (record { object = c .before .before .step .given .0 .0; state = 0; x = 0; y = 0 }) (entries (A .s)) (entries (c .sift .result)) (c .sift .ensures .0 v)), omega (arith, c .sift .ensures .1))
+    (λ v. rw (c .before .before .step .given .1) (hide-changed (roomOfTables (A .objects .now) v (A .size)) (sceneAfter (roomOfTables (A .objects .now) v (A .size)) (down (stepAt (A .session .now)) (A .upto)) (entries (A .s))) (record { object = c .before .before .step .given .0 .0; state = 0; x = 0; y = 0 }) (entries (A .s)) (entries (c .removed .result)) (c .removed .ensures .0 v)), omega (arith, c .removed .ensures .1))
 
 returns-2 : tie.Need-returns-2
 returns-2 c =
     let A = c .before .before .before .before .before .before .before .before .before .before .before .args in
-    (λ v. let sc : Scene = sceneAfter (tabled (A .objects .now) v (A .size)) (down (stepAt (A .session .now)) (A .upto)) (entries (A .s)) in rw (c .before .before .before .before .before .before .before .step2 .given .1) (draw-changed (tabled (A .objects .now) v (A .size)) sc (c .before .before .before .before .before .before .before .step2 .given .0 .0) (c .before .before .before .before .before .before .before .step2 .given .0 .1 .0) (c .before .before .before .before .before .before .before .step2 .given .0 .1 .1 .0) (c .before .before .before .before .placed .result) (entries (A .s)) (entries (c .before .sift2 .result)) (entries (c .push-if .result)) (c .before .before .before .before .placed .ensures sc (c .before .before .before .before .before .before .before .step2 .given .0 .0) (c .before .before .before .before .before .last-place .ensures v)) (c .before .sift2 .ensures .0 v) (c .push-if .ensures .0)), omega (arith, c .before .before .before .before .before .before .before .before .before .before .before .pre .4, c .push-if .ensures .1, c .before .sift2 .ensures .1))
+    (λ v. let sc : Scene = sceneAfter (roomOfTables (A .objects .now) v (A .size)) (down (stepAt (A .session .now)) (A .upto)) (entries (A .s)) in rw (c .before .before .before .before .before .before .before .step2 .given .1) (draw-changed (roomOfTables (A .objects .now) v (A .size)) sc (c .before .before .before .before .before .before .before .step2 .given .0 .0) (c .before .before .before .before .before .before .before .step2 .given .0 .1 .0) (c .before .before .before .before .before .before .before .step2 .given .0 .1 .1 .0) (c .before .before .before .before .placed .result) (entries (A .s)) (entries (c .before .removed2 .result)) (entries (c .push-if .result)) (c .before .before .before .before .placed .ensures sc (c .before .before .before .before .before .before .before .step2 .given .0 .0) (c .before .before .before .before .before .last-place .ensures v)) (c .before .removed2 .ensures .0 v) (c .push-if .ensures .0)), omega (arith, c .before .before .before .before .before .before .before .before .before .before .before .pre .4, c .push-if .ensures .1, c .before .removed2 .ensures .1))
 
 pub changed-spec : {M : Type 1} → statement M
 changed-spec =
     tie.close
     (tie.spec
     enum-known-step
-    sift-requires
+    removed-requires
     enum-known-step-2
     last-place-requires
     placed-requires
     cast-t17
     cast-t18
-    sift-requires-2
+    removed-requires-2
     push-if-requires
     returns
     returns-2)

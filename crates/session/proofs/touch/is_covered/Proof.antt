@@ -1,5 +1,5 @@
 -- `session::touch::is_covered` meets its contract. Assumes nothing.
-use Rattle.replay.specs.Tables.{tabled}
+use Rattle.replay.specs.Tables.{roomOfTables}
 use Rattle.scene.specs.Painting.{covers}
 use borrow.Author.Needs.{needs}
 use Rattle.session.proofs.touch.is_covered.Statement.{statement}
@@ -15,7 +15,7 @@ add-result : tie.Need-add-result
 add-result c = search needs
 
 returns : tie.Need-returns
-unfolding covers tabled
+unfolding covers roomOfTables
 returns c = λ v. rw (c .before .wide .ensures .0, c .cell .ensures .0)
 
 pub is-covered-spec : {M : Type 1} → statement M

@@ -6,7 +6,7 @@ use lib.ListN.{length, length-set, set}
 use native.Mathlib.Omega.{arith}
 use Rattle.stored.specs.Bytes.{entries}
 use Rattle.session.specs.Plans.{flag, flagged}
-use Rattle.replay.specs.Tables.{tabled}
+use Rattle.replay.specs.Tables.{roomOfTables}
 use Rattle.scene.specs.declared.Entry.{Entry}
 use Rattle.scene.specs.Steps.{some}
 use Rattle.scene.specs.Painting.{covers}
@@ -15,13 +15,13 @@ use Rattle.session.proofs.touch.mark_strips.Statement.{statement}
 use Rattle.session.proofs.touch.mark_strips.Tie as tie
 
 abbrev Inv-loop : tie.InvT-loop
-Inv-loop strips₀ objects size s k₀ strips k = (k ≤ 128) × (128 ≤ length strips₀) × (length strips ≡ length strips₀) × ((v : List ℕ) → strips ≡ flagged (λ j. some (λ (e : Entry). covers (tabled objects v size) e j) (entries s)) k strips₀)
+Inv-loop strips₀ objects size s k₀ strips k = (k ≤ 128) × (128 ≤ length strips₀) × (length strips ≡ length strips₀) × ((v : List ℕ) → strips ≡ flagged (λ j. some (λ (e : Entry). covers (roomOfTables objects v size) e j) (entries s)) k strips₀)
 
 abbrev μ-loop : tie.MeasureT-loop
 μ-loop strips₀ objects size s k₀ strips k = 128 - k
 
 loop-holds : tie.Need-loop-holds Inv-loop μ-loop
-loop-holds c = (omega arith, c .before .before .pre .0, refl, λ v. flag-none (λ j. some (λ (e : Entry). covers (tabled (c .before .before .args .objects .now) v (c .before .before .args .size)) e j) (entries (c .before .before .args .s))) (c .before .before .args .strips .now))
+loop-holds c = (omega arith, c .before .before .pre .0, refl, λ v. flag-none (λ j. some (λ (e : Entry). covers (roomOfTables (c .before .before .args .objects .now) v (c .before .before .args .size)) e j) (entries (c .before .before .args .s))) (c .before .before .args .strips .now))
 
 some-covers-requires : tie.Need-some-covers-requires Inv-loop μ-loop
 some-covers-requires c κs = let p = c .before .before .before .before .pre in (p .1, p .2, p .3)
@@ -42,13 +42,13 @@ loop-again : tie.Need-loop-again Inv-loop μ-loop
 loop-again c =
     let v = c .before .before .before .loop .inv in
     let A = c .before .before .before .before .before .before .args in
-    (omega arith, v .1, simp length-set (v .2), λ w. ap (λ (l : List ℕ). set l (c .before .before .before .loop .k) (c .bit .result)) (v .3 w) ∙ flag-more (λ j. some (λ (e : Entry). covers (tabled (A .objects .now) w (A .size)) e j) (entries (A .s))) (A .strips .now) (c .before .before .before .loop .k) (c .bit .result) (omega arith) (c .bit .ensures ∙ ap flag (c .before .some-covers .ensures w)))
+    (omega arith, v .1, simp length-set (v .2), λ w. ap (λ (l : List ℕ). set l (c .before .before .before .loop .k) (c .bit .result)) (v .3 w) ∙ flag-more (λ j. some (λ (e : Entry). covers (roomOfTables (A .objects .now) w (A .size)) e j) (entries (A .s))) (A .strips .now) (c .before .before .before .loop .k) (c .bit .result) (omega arith) (c .bit .ensures ∙ ap flag (c .before .some-covers .ensures w)))
 
 same-length : tie.Need-same-length Inv-loop μ-loop
 same-length c = c .before .loop .inv .2
 
 returns : tie.Need-returns Inv-loop μ-loop
-returns c = λ v. let e : c .before .loop .k ≡ 128 = omega arith in c .before .loop .inv .3 v ∙ ap (λ (n : ℕ). flagged (λ j. some (λ (e : Entry). covers (tabled (c .before .before .before .before .args .objects .now) v (c .before .before .before .before .args .size)) e j) (entries (c .before .before .before .before .args .s))) n (c .before .before .before .before .args .strips .now)) e
+returns c = λ v. let e : c .before .loop .k ≡ 128 = omega arith in c .before .loop .inv .3 v ∙ ap (λ (n : ℕ). flagged (λ j. some (λ (e : Entry). covers (roomOfTables (c .before .before .before .before .args .objects .now) v (c .before .before .before .before .args .size)) e j) (entries (c .before .before .before .before .args .s))) n (c .before .before .before .before .args .strips .now)) e
 
 pub mark-strips-spec : {M : Type 1} → statement M
 mark-strips-spec =

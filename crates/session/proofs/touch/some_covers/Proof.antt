@@ -6,7 +6,7 @@ use mathlib.Core.List.{List}
 use lib.ListN.{length, take}
 use native.Mathlib.Omega.{arith}
 use borrow.Author.Needs.{needs}
-use Rattle.replay.specs.Tables.{tabled}
+use Rattle.replay.specs.Tables.{roomOfTables}
 use Rattle.scene.specs.declared.Entry.{Entry}
 use Rattle.scene.specs.Steps.{some}
 use Rattle.scene.specs.Painting.{covers}
@@ -16,7 +16,7 @@ use Rattle.session.proofs.touch.some_covers.Statement.{statement}
 use Rattle.session.proofs.touch.some_covers.Tie as tie
 
 abbrev Inv-loop : tie.InvT-loop
-Inv-loop objects size strip s n found₀ i₀ found i = (i ≤ n) × (n ≤ 64) × (n ≡ s .n) × (length (s .list) ≡ 64) × ((v : List ℕ) → found ≡ some (λ (e : Entry). covers (tabled objects v size) e strip) (take i (s .list)))
+Inv-loop objects size strip s n found₀ i₀ found i = (i ≤ n) × (n ≤ 64) × (n ≡ s .n) × (length (s .list) ≡ 64) × ((v : List ℕ) → found ≡ some (λ (e : Entry). covers (roomOfTables objects v size) e strip) (take i (s .list)))
 
 abbrev μ-loop : tie.MeasureT-loop
 μ-loop objects size strip s n found₀ i₀ found i = n - i
@@ -44,7 +44,7 @@ loop-again : tie.Need-loop-again Inv-loop μ-loop
 loop-again c =
     let v = c .before .before .before .loop .inv in
     let A = c .before .before .before .before .before .args in
-    (omega arith, v .1, v .2, v .3, λ w. ap (λ (b : Bool). c .before .before .before .loop .found || b) (c .is-covered .ensures w) ∙ some-more (λ (e : Entry). covers (tabled (A .objects .now) w (A .size)) e (A .strip)) (A .t3 .list) (c .before .before .before .loop .i) _ (c .before .before .before .loop .found) (omega arith) (v .4 w))
+    (omega arith, v .1, v .2, v .3, λ w. ap (λ (b : Bool). c .before .before .before .loop .found || b) (c .is-covered .ensures w) ∙ some-more (λ (e : Entry). covers (roomOfTables (A .objects .now) w (A .size)) e (A .strip)) (A .t3 .list) (c .before .before .before .loop .i) _ (c .before .before .before .loop .found) (omega arith) (v .4 w))
 
 returns : tie.Need-returns Inv-loop μ-loop
 returns c =

@@ -2,7 +2,7 @@
 use Rattle.session.proofs.TouchLaws.{touched-is}
 use Rattle.stored.specs.Bytes.{entries, stepAt, down}
 use Rattle.replay.specs.Replay.{sceneAfter}
-use Rattle.replay.specs.Tables.{tabled}
+use Rattle.replay.specs.Tables.{roomOfTables}
 use borrow.Author.Needs.{needs}
 use Rattle.session.proofs.touch.touched.Statement.{statement}
 use Rattle.session.proofs.touch.touched.Tie as tie
@@ -19,7 +19,7 @@ same-length c = search needs
 returns : tie.Need-returns
 returns c =
     let A = c .before .before .before .before .before .before .before .before .args in
-    λ v. touched-is (tabled (A .objects .now) v (A .size)) (sceneAfter (tabled (A .objects .now) v (A .size)) (down (stepAt (A .session .now)) (A .upto)) (entries (A .s))) (A .step) 128 (A .strips .now) _ (entries (c .before .before .before .before .changed .result)) (c .before .before .mark-strips .ensures v) (c .before .before .before .before .changed .ensures .0 v)
+    λ v. touched-is (roomOfTables (A .objects .now) v (A .size)) (sceneAfter (roomOfTables (A .objects .now) v (A .size)) (down (stepAt (A .session .now)) (A .upto)) (entries (A .s))) (A .step) 128 (A .strips .now) _ (entries (c .before .before .before .before .changed .result)) (c .before .before .mark-strips .ensures v) (c .before .before .before .before .changed .ensures .0 v)
 
 pub touched-spec : {M : Type 1} → statement M
 touched-spec = tie.close (tie.spec changed-requires mark-strips-requires same-length returns)

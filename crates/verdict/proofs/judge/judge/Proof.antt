@@ -1,5 +1,5 @@
 -- `verdict::judge::judge` meets its contract. Assumes nothing.
-use Rattle.verdict.proofs.VerdictLaws.{judged-knows}
+use Rattle.verdict.proofs.VerdictLaws.{judged-agree}
 use borrow.Author.Needs.{needs}
 use Rattle.verdict.proofs.judge.judge.Statement.{statement}
 use Rattle.verdict.proofs.judge.judge.Tie as tie
@@ -14,7 +14,7 @@ same-length : tie.Need-same-length
 same-length c = search needs
 
 returns : tie.Need-returns
-returns c = judged-knows _ (c .before .before .before .before .before .before .before .before .before .before .before .before .args .r) _ (c .before .before .before .before .before .before .before .before .before .before .before .before .pre .0 .1) _ _ (c .before .before .before .before .before .before .before .before .before .before .before .before .pre .0 .0) (c .before .before .judge-step .ensures _ (c .before .before .before .before .before .before .judge-steps .ensures))
+returns c = judged-agree _ (c .before .before .before .before .before .before .before .before .before .before .before .before .args .r) _ (c .before .before .before .before .before .before .before .before .before .before .before .before .pre .0 .1) _ _ (c .before .before .before .before .before .before .before .before .before .before .before .before .pre .0 .0) (c .before .before .judge-step .ensures _ (c .before .before .before .before .before .before .judge-steps .ensures))
 
 pub judge-spec : {M : Type 1} → statement M
 judge-spec = tie.close (tie.spec judge-steps-requires judge-step-requires same-length returns)

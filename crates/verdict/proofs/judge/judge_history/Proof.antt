@@ -1,5 +1,5 @@
 -- `verdict::judge::judge_history` meets its contract. Assumes nothing.
-use Rattle.verdict.proofs.VerdictLaws.{judged-knows}
+use Rattle.verdict.proofs.VerdictLaws.{judged-agree}
 use borrow.Author.Needs.{needs}
 use Rattle.verdict.proofs.judge.judge_history.Statement.{statement}
 use Rattle.verdict.proofs.judge.judge_history.Tie as tie
@@ -11,7 +11,7 @@ same-length : tie.Need-same-length
 same-length c = search needs
 
 returns : tie.Need-returns
-returns c = judged-knows _ (c .before .before .before .before .before .before .before .before .args .r) _ (c .before .before .before .before .before .before .before .before .pre .0 .1) _ _ (c .before .before .before .before .before .before .before .before .pre .0 .0) (c .before .before .judge-steps .ensures)
+returns c = judged-agree _ (c .before .before .before .before .before .before .before .before .args .r) _ (c .before .before .before .before .before .before .before .before .pre .0 .1) _ _ (c .before .before .before .before .before .before .before .before .pre .0 .0) (c .before .before .judge-steps .ensures)
 
 pub judge-history-spec : {M : Type 1} → statement M
 judge-history-spec = tie.close (tie.spec judge-steps-requires same-length returns)
