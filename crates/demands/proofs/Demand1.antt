@@ -19,17 +19,14 @@ use Rattle.limbs.proofs.Theorems.{tick-unchanged}
 use Rattle.load.specs.Load.{sessionAfter, pixelsAfter, masksAfter}
 use Rattle.scene.specs.Painting.{Room, Surfaces}
 use Rattle.scene.specs.declared.Call.{Call}
-use Rattle.scene.specs.declared.Call.the-variants.{Make, TakeBack}
 use Rattle.scene.specs.Session.{State, called}
-use Rattle.scene.specs.declared.Step.{Step}
 use Rattle.replay.specs.Replay as replay
 use Rattle.session.specs.Plans as plans
-use Rattle.session.proofs.Caller.{make-called, back-called}
+use Rattle.session.proofs.CalledLaws.{called-refused}
+use Rattle.session.proofs.Caller.{called-kept}
 use Rattle.layers.specs.Decoded.{decoded}
-use Rattle.play.specs.Calls.{callNumber, callSession, callPixels, callMasks, stateOf, kept}
+use Rattle.play.specs.Calls.{stateOf, kept}
 use Rattle.play.specs.Bytes as play
-use Rattle.play.proofs.StepLaws.{called-refused}
-use Rattle.play.proofs.UndoLaws.{back-refused}
 use Rattle.demands.specs.Demand1.{Refusing, Demand1}
 
 -- ---- records, headers, loads, blocks
@@ -53,42 +50,26 @@ block-stays (written b) d f = absurd (f refl)
 
 -- ---- draws, hides and take-backs
 
-step-kept : (l : List ℕ) (st : Step) (p : replay.Plan) → Refusing (plans.numberOf p) → plans.stepKept l st p ≡ l
-step-kept l st (replay.no k) f = refl
-step-kept l st (replay.ok es) f = absurd (f refl)
-
-back-kept : (l : List ℕ) (p : replay.Plan) → Refusing (plans.numberOf p) → plans.backKept l p ≡ l
-back-kept l (replay.no k) f = refl
-back-kept l (replay.ok es) f = absurd (f refl)
+plan-stays : (l : List ℕ) (c : Call) (p : replay.Plan) → Refusing (plans.numberOf p) → plans.bytesKept l c p ≡ l
+plan-stays l c (replay.no k) f = refl
+plan-stays l c (replay.ok es) f = absurd (f refl)
 
 module _ (s : List ℕ) (b : play.Lent) where
   abbrev held : room.Room → State
   held r = stateOf (decoded s r) (b .session) (b .pixels) (b .masks)
 
-  abbrev afterOf : Call → Tested → play.Lent
-  afterOf c t =
-      record {
-        session = callSession s (b .session) c t;
-        pixels = callPixels s (b .session) (b .pixels) (b .masks) c t;
-        masks = callMasks s (b .session) (b .pixels) (b .masks) c t;
-      }
-
   module _ (r : room.Room) (long : 450 ≤ length (b .session)) where
     session-stays : (c : Call) → Refusing (called (decoded s r) (held r) c .number) → kept s r (b .session) c ≡ b .session
-    session-stays (Make st) f =
-        step-kept (b .session) st (plans.planned (decoded s r) (b .session) st) (λ z. f (make-called (decoded s r) (b .session) long (held r .surfaces) st .0 ∙ z))
-    session-stays TakeBack f = back-kept (b .session) (plans.plannedBack (decoded s r) (b .session)) (λ z. f (back-called (decoded s r) (b .session) long (held r .surfaces) .0 ∙ z))
+    session-stays c f =
+        plan-stays (b .session) c (plans.planned (decoded s r) (b .session) c)
+        (λ z. f (called-kept (decoded s r) (b .session) long (held r .surfaces) c .0 ∙ z))
 
-    state-stays : (c : Call) → Refusing (called (decoded s r) (held r) c .number) → called (decoded s r) (held r) c .after ≡ held r
-    state-stays (Make st) f = called-refused (decoded s r) (held r) st f
-    state-stays TakeBack f = back-refused (decoded s r) (held r) f
-
-    right-stays : (c : Call) → Refusing (called (decoded s r) (held r) c .number) → afterOf c (tested.Right r) ≡ b
+    right-stays : (c : Call) → Refusing (called (decoded s r) (held r) c .number) → play.afterBy s b c (tested.Right r) ≡ b
     right-stays c f =
-        let e = state-stays c f in
+        let e = called-refused (decoded s r) (held r) c f in
         λ i. record { session = session-stays c f i; pixels = e i .surfaces .pixels; masks = e i .surfaces .masks }
 
-  call-stays : (c : Call) (t : Tested) → play.testOf s b ≡ t → Refusing (callNumber s (b .session) (b .pixels) (b .masks) c t) → afterOf c t ≡ b
+  call-stays : (c : Call) (t : Tested) → play.testOf s b ≡ t → Refusing (play.numberBy s b c t) → play.afterBy s b c t ≡ b
   call-stays c (tested.Right r) e f =
       let passes = test-passes (withSurfaces 450 (length (b .session)) (length (b .pixels)) (length (b .masks))) s r (sym e) in
       right-stays r (surfaces-long 450 (length (b .session)) (length (b .pixels)) (length (b .masks)) r (passes .enough) .0) c f

@@ -13,7 +13,7 @@ ghost use Rattle.scene.specs.declared.Place.the-variants as place;
 ghost use Rattle.scene.specs.declared.Step.the-variants as step;
 ghost use Rattle.kildegrom.specs.Word.{hiddenWord, startedWord, drawnWord, wroteWord, pointedWord};
 ghost use Rattle.point.specs.Call.{pointedAt};
-ghost use Rattle.play.specs.Calls.{callNumber, callSession, callPixels, callMasks};
+ghost use Rattle.play.specs.Bytes as calls;
 ghost use Rattle.room.specs.Test.{numberOf};
 ghost use Rattle.objects.specs.Record.{recordTest, recordAfter};
 ghost use Rattle.objects.specs.Object.{placeNumber, headerCall, headerAfter};
@@ -24,6 +24,7 @@ use blocks::Wrote;
 use costume::Started;
 use limbs::Drawn;
 use point::Pointed;
+use scene::Call;
 use scene::Place;
 use scene::Step;
 
@@ -62,17 +63,19 @@ pub extern "C" fn kg_draw_last(
     object: u32,
     state: u32,
 ) -> u32
-    ensures { λ n. ⌜ n ≡ callNumber (now (room .entry)) (now (session .entry)) (now (pixels .entry)) (now (masks .entry)) (Make (step.Draw object state place.Last)) (loadTest (now (room .entry)) (now (session .entry)) (now (pixels .entry)) (now (masks .entry))) ⌝ }
-    ensures { λ _. ⌜ now (session .exit) ≡ callSession (now (room .entry)) (now (session .entry)) (Make (step.Draw object state place.Last)) (loadTest (now (room .entry)) (now (session .entry)) (now (pixels .entry)) (now (masks .entry))) ⌝ }
-    ensures { λ _. ⌜ now (pixels .exit) ≡ callPixels (now (room .entry)) (now (session .entry)) (now (pixels .entry)) (now (masks .entry)) (Make (step.Draw object state place.Last)) (loadTest (now (room .entry)) (now (session .entry)) (now (pixels .entry)) (now (masks .entry))) ⌝ }
-    ensures { λ _. ⌜ now (masks .exit) ≡ callMasks (now (room .entry)) (now (session .entry)) (now (pixels .entry)) (now (masks .entry)) (Make (step.Draw object state place.Last)) (loadTest (now (room .entry)) (now (session .entry)) (now (pixels .entry)) (now (masks .entry))) ⌝ }
+    ensures { λ n. ⌜ n
+        ≡ calls.numberOf (now (room .entry)) (calls.lent (now (session .entry)) (now (pixels .entry)) (now (masks .entry)))
+        (Make (step.Draw object state place.Last)) ⌝ }
+    ensures { λ _. ⌜ calls.lent (now (session .exit)) (now (pixels .exit)) (now (masks .exit))
+        ≡ calls.afterCall (now (room .entry)) (calls.lent (now (session .entry)) (now (pixels .entry)) (now (masks .entry)))
+        (Make (step.Draw object state place.Last)) ⌝ }
 {
-    play::calls::act(
+    play::calls::call(
         room,
         session,
         pixels,
         masks,
-        Step::Draw(object, state, Place::Last),
+        Call::Make(Step::Draw(object, state, Place::Last)),
     )
 }
 
@@ -88,17 +91,19 @@ pub extern "C" fn kg_draw_at(
     a: u32,
     b: u32,
 ) -> u32
-    ensures { λ n. ⌜ n ≡ callNumber (now (room .entry)) (now (session .entry)) (now (pixels .entry)) (now (masks .entry)) (Make (step.Draw object state (place.Strip a b))) (loadTest (now (room .entry)) (now (session .entry)) (now (pixels .entry)) (now (masks .entry))) ⌝ }
-    ensures { λ _. ⌜ now (session .exit) ≡ callSession (now (room .entry)) (now (session .entry)) (Make (step.Draw object state (place.Strip a b))) (loadTest (now (room .entry)) (now (session .entry)) (now (pixels .entry)) (now (masks .entry))) ⌝ }
-    ensures { λ _. ⌜ now (pixels .exit) ≡ callPixels (now (room .entry)) (now (session .entry)) (now (pixels .entry)) (now (masks .entry)) (Make (step.Draw object state (place.Strip a b))) (loadTest (now (room .entry)) (now (session .entry)) (now (pixels .entry)) (now (masks .entry))) ⌝ }
-    ensures { λ _. ⌜ now (masks .exit) ≡ callMasks (now (room .entry)) (now (session .entry)) (now (pixels .entry)) (now (masks .entry)) (Make (step.Draw object state (place.Strip a b))) (loadTest (now (room .entry)) (now (session .entry)) (now (pixels .entry)) (now (masks .entry))) ⌝ }
+    ensures { λ n. ⌜ n
+        ≡ calls.numberOf (now (room .entry)) (calls.lent (now (session .entry)) (now (pixels .entry)) (now (masks .entry)))
+        (Make (step.Draw object state (place.Strip a b))) ⌝ }
+    ensures { λ _. ⌜ calls.lent (now (session .exit)) (now (pixels .exit)) (now (masks .exit))
+        ≡ calls.afterCall (now (room .entry)) (calls.lent (now (session .entry)) (now (pixels .entry)) (now (masks .entry)))
+        (Make (step.Draw object state (place.Strip a b))) ⌝ }
 {
-    play::calls::act(
+    play::calls::call(
         room,
         session,
         pixels,
         masks,
-        Step::Draw(object, state, Place::Strip(a, b)),
+        Call::Make(Step::Draw(object, state, Place::Strip(a, b))),
     )
 }
 
@@ -111,12 +116,14 @@ pub extern "C" fn kg_hide(
     masks: &mut [u8],
     object: u32,
 ) -> u32
-    ensures { λ n. ⌜ n ≡ callNumber (now (room .entry)) (now (session .entry)) (now (pixels .entry)) (now (masks .entry)) (Make (step.Hide object)) (loadTest (now (room .entry)) (now (session .entry)) (now (pixels .entry)) (now (masks .entry))) ⌝ }
-    ensures { λ _. ⌜ now (session .exit) ≡ callSession (now (room .entry)) (now (session .entry)) (Make (step.Hide object)) (loadTest (now (room .entry)) (now (session .entry)) (now (pixels .entry)) (now (masks .entry))) ⌝ }
-    ensures { λ _. ⌜ now (pixels .exit) ≡ callPixels (now (room .entry)) (now (session .entry)) (now (pixels .entry)) (now (masks .entry)) (Make (step.Hide object)) (loadTest (now (room .entry)) (now (session .entry)) (now (pixels .entry)) (now (masks .entry))) ⌝ }
-    ensures { λ _. ⌜ now (masks .exit) ≡ callMasks (now (room .entry)) (now (session .entry)) (now (pixels .entry)) (now (masks .entry)) (Make (step.Hide object)) (loadTest (now (room .entry)) (now (session .entry)) (now (pixels .entry)) (now (masks .entry))) ⌝ }
+    ensures { λ n. ⌜ n
+        ≡ calls.numberOf (now (room .entry)) (calls.lent (now (session .entry)) (now (pixels .entry)) (now (masks .entry)))
+        (Make (step.Hide object)) ⌝ }
+    ensures { λ _. ⌜ calls.lent (now (session .exit)) (now (pixels .exit)) (now (masks .exit))
+        ≡ calls.afterCall (now (room .entry)) (calls.lent (now (session .entry)) (now (pixels .entry)) (now (masks .entry)))
+        (Make (step.Hide object)) ⌝ }
 {
-    play::calls::act(room, session, pixels, masks, Step::Hide(object))
+    play::calls::call(room, session, pixels, masks, Call::Make(Step::Hide(object)))
 }
 
 // Takes the newest step back.
@@ -127,12 +134,14 @@ pub extern "C" fn kg_take_back(
     pixels: &mut [u8],
     masks: &mut [u8],
 ) -> u32
-    ensures { λ n. ⌜ n ≡ callNumber (now (room .entry)) (now (session .entry)) (now (pixels .entry)) (now (masks .entry)) TakeBack (loadTest (now (room .entry)) (now (session .entry)) (now (pixels .entry)) (now (masks .entry))) ⌝ }
-    ensures { λ _. ⌜ now (session .exit) ≡ callSession (now (room .entry)) (now (session .entry)) TakeBack (loadTest (now (room .entry)) (now (session .entry)) (now (pixels .entry)) (now (masks .entry))) ⌝ }
-    ensures { λ _. ⌜ now (pixels .exit) ≡ callPixels (now (room .entry)) (now (session .entry)) (now (pixels .entry)) (now (masks .entry)) TakeBack (loadTest (now (room .entry)) (now (session .entry)) (now (pixels .entry)) (now (masks .entry))) ⌝ }
-    ensures { λ _. ⌜ now (masks .exit) ≡ callMasks (now (room .entry)) (now (session .entry)) (now (pixels .entry)) (now (masks .entry)) TakeBack (loadTest (now (room .entry)) (now (session .entry)) (now (pixels .entry)) (now (masks .entry))) ⌝ }
+    ensures { λ n. ⌜ n
+        ≡ calls.numberOf (now (room .entry)) (calls.lent (now (session .entry)) (now (pixels .entry)) (now (masks .entry)))
+        TakeBack ⌝ }
+    ensures { λ _. ⌜ calls.lent (now (session .exit)) (now (pixels .exit)) (now (masks .exit))
+        ≡ calls.afterCall (now (room .entry)) (calls.lent (now (session .entry)) (now (pixels .entry)) (now (masks .entry)))
+        TakeBack ⌝ }
 {
-    play::calls::take_back(room, session, pixels, masks)
+    play::calls::call(room, session, pixels, masks, Call::TakeBack)
 }
 
 // The object under a point.

@@ -20,11 +20,11 @@ use Rattle.scene.specs.declared.Call.the-variants.{Make, TakeBack}
 use Rattle.scene.specs.Session.{State, Outcome, called, loaded, stateAfter, Demand3}
 use Rattle.scene.proofs.Reading.{length-rebuilt}
 use Rattle.scene.proofs.Demand3 as scene
-use Rattle.stored.specs.Bytes.{sessionOf, putMarks, putNewest, dropNewest}
+use Rattle.stored.specs.Bytes.{sessionOf, putMarks, putHistory}
 use Rattle.replay.specs.Replay.{Plan, no, ok}
-use Rattle.session.specs.Plans.{planned, plannedBack, stepKept, backKept}
+use Rattle.session.specs.Plans.{planned, bytesKept}
 use Rattle.stored.proofs.BytesLaws.{length-marks}
-use Rattle.session.proofs.Caller.{make-called, back-called}
+use Rattle.session.proofs.Caller.{called-kept}
 use Rattle.layers.specs.Decoded.{decoded}
 use Rattle.play.specs.Calls.{stateOf, outcome, kept}
 use Rattle.play.specs.Bytes.{Lent, testOf, afterLoad, afterCall, numberOf, bytesAfter}
@@ -48,17 +48,16 @@ module _ (s : List ℕ) (r : room.Room) (b : Lent) (accepted : testOf s b ≡ Ri
 
   -- ---- lengths stay
 
-  step-length : (l : List ℕ) (st : _) (p : Plan) → length (stepKept l st p) ≡ length l
-  step-length l st (no k) = refl
-  step-length l st (ok es) = length-set (putMarks (putNewest l st) 0 es) 1 (length es) ∙ length-marks (putNewest l st) 0 es ∙ simp length-set
+  history-length : (l : List ℕ) (c : Call) → length (putHistory l c) ≡ length l
+  history-length l (Make st) = simp length-set
+  history-length l TakeBack = simp length-set
 
-  back-length : (l : List ℕ) (p : Plan) → length (backKept l p) ≡ length l
-  back-length l (no k) = refl
-  back-length l (ok es) = length-set (putMarks (dropNewest l) 0 es) 1 (length es) ∙ length-marks (dropNewest l) 0 es ∙ simp length-set
+  plan-length : (l : List ℕ) (c : Call) (p : Plan) → length (bytesKept l c p) ≡ length l
+  plan-length l c (no k) = refl
+  plan-length l c (ok es) = length-set (putMarks (putHistory l c) 0 es) 1 (length es) ∙ length-marks (putHistory l c) 0 es ∙ history-length l c
 
   kept-length : (l : List ℕ) (c : Call) → length (kept s r l c) ≡ length l
-  kept-length l (Make st) = step-length l st (planned D l st)
-  kept-length l TakeBack = back-length l (plannedBack D l)
+  kept-length l c = plan-length l c (planned D l c)
 
   over-length : (xs d : List ℕ) → length xs ≤ length d → length (over xs d) ≡ length d
   unfolding over
@@ -99,8 +98,8 @@ module _ (s : List ℕ) (r : room.Room) (b : Lent) (accepted : testOf s b ≡ Ri
       (ap (λ (t : Surfaces). length (t .masks)) q ∙ length-rebuilt (maskLayout D) (p .0) (λ k. true) (b .masks))
 
   call-state : (x : Lent) (c : Call) → testOf s x ≡ Right r → 450 ≤ length (x .session) → held (afterCall s x c) ≡ called D (held x) c .after
-  call-state x (Make st) e le = rw e (λ i. record { session = sym (make-called D (x .session) le (held x .surfaces) st .1) i; surfaces = called D (held x) (Make st) .after .surfaces })
-  call-state x TakeBack e le = rw e (λ i. record { session = sym (back-called D (x .session) le (held x .surfaces) .1) i; surfaces = called D (held x) TakeBack .after .surfaces })
+  call-state x c e le =
+      rw e (λ i. record { session = sym (called-kept D (x .session) le (held x .surfaces) c .1) i; surfaces = called D (held x) c .after .surfaces })
 
   pub reached : (cs : List Call) → Reached cs
   unfolding bytesAfter stateAfter

@@ -1,6 +1,5 @@
 pub mod FlatLaws
-pub mod StepLaws
-pub mod MakeLaws
-pub mod UndoLaws
+pub mod FineLaws
+pub mod CallLaws
 pub mod LoadedLaws
 pub mod Demand3

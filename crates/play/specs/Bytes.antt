@@ -12,11 +12,14 @@ pub record Lent : Type 0 where
   pub pixels : List ℕ
   pub masks : List ℕ
 
+abbrev pub lent : (session pixels masks : List ℕ) → Lent
+lent session pixels masks = record { session = session; pixels = pixels; masks = masks }
+
 -- the room's test with them
 abbrev pub testOf : List ℕ → Lent → Tested
 testOf s b = loadTest s (b .session) (b .pixels) (b .masks)
 
--- what a load leaves, and what a call leaves, as their contracts say
+-- what a load leaves
 abbrev pub afterLoad : List ℕ → Lent → Lent
 afterLoad s b =
     record {
@@ -25,16 +28,23 @@ afterLoad s b =
       masks = masksAfter s (testOf s b) (b .masks);
     }
 
-abbrev pub afterCall : List ℕ → Lent → Call → Lent
-afterCall s b c =
+-- a call's number and what it leaves: by the room's test, and of any bytes
+abbrev pub numberBy : List ℕ → Lent → Call → Tested → ℕ
+numberBy s b c t = callNumber s (b .session) (b .pixels) (b .masks) c t
+
+abbrev pub afterBy : List ℕ → Lent → Call → Tested → Lent
+afterBy s b c t =
     record {
-      session = callSession s (b .session) c (testOf s b);
-      pixels = callPixels s (b .session) (b .pixels) (b .masks) c (testOf s b);
-      masks = callMasks s (b .session) (b .pixels) (b .masks) c (testOf s b);
+      session = callSession s (b .session) c t;
+      pixels = callPixels s (b .session) (b .pixels) (b .masks) c t;
+      masks = callMasks s (b .session) (b .pixels) (b .masks) c t;
     }
 
 abbrev pub numberOf : List ℕ → Lent → Call → ℕ
-numberOf s b c = callNumber s (b .session) (b .pixels) (b .masks) c (testOf s b)
+numberOf s b c = numberBy s b c (testOf s b)
+
+abbrev pub afterCall : List ℕ → Lent → Call → Lent
+afterCall s b c = afterBy s b c (testOf s b)
 
 -- the bytes after a load and a list of calls
 unfoldable pub bytesAfter : List ℕ → Lent → List Call → Lent

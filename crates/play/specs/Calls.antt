@@ -7,11 +7,9 @@ use Rattle.room.specs.declared.Tested.{Tested}
 use Rattle.room.specs.declared.Tested.the-variants.{Right, Refused}
 use Rattle.scene.specs.Painting as scene
 use Rattle.scene.specs.declared.Call.{Call}
-use Rattle.scene.specs.declared.Call.the-variants.{Make, TakeBack}
 use Rattle.scene.specs.Session.{State, Outcome, called}
-use Rattle.scene.specs.declared.Step.{Step}
 use Rattle.stored.specs.Bytes.{sessionOf}
-use Rattle.session.specs.Plans.{planned, plannedBack, stepKept, backKept}
+use Rattle.session.specs.Plans.{planned, bytesKept}
 use Rattle.layers.specs.Decoded.{decoded}
 
 -- the session that the bytes hold, and the surfaces lent with it
@@ -25,8 +23,7 @@ outcome s r session pixels masks c = called (decoded s r) (stateOf (decoded s r)
 
 -- the session's bytes after it
 abbrev pub kept : List ℕ → Room → List ℕ → Call → List ℕ
-kept s r session (Make st) = stepKept session st (planned (decoded s r) session st)
-kept s r session TakeBack = backKept session (plannedBack (decoded s r) session)
+kept s r session c = bytesKept session c (planned (decoded s r) session c)
 
 -- the number and the lent bytes, by the room's test
 abbrev pub callNumber : List ℕ → (session pixels masks : List ℕ) → Call → Tested → ℕ

@@ -5,7 +5,9 @@ use mathlib.Core.Path.{_≡_}
 use mathlib.Core.Bool.{Bool, true, false, cond, not, _&&_, _||_}
 use mathlib.Core.List.{List, [], _∷_}
 use lib.Dec.{eqb, leb, ltb}
-use lib.ListN.{getD}
+use lib.ListN.{getD, length}
+use Rattle.scene.specs.declared.Call.{Call}
+use Rattle.scene.specs.declared.Call.the-variants.{Make, TakeBack}
 use Rattle.scene.specs.declared.Step.{Step}
 use Rattle.scene.specs.declared.Step.the-variants.{Draw, Hide}
 use Rattle.scene.specs.Painting.{Room}
@@ -44,6 +46,10 @@ roomOfTables objects verdicts size =
 abbrev pub Sizes : Size → Type 0
 Sizes size = (size .strips ≤ 128) × (size .height ≤ 200) × (size .count ≤ 128)
 
+-- what is asked of lent bytes and gathered numbers before a session is read by them
+abbrev pub LongEnough : (session objects verdicts : List ℕ) → Size → Type 0
+LongEnough session objects verdicts size = (450 ≤ length session) × (1032 ≤ length objects) × (1290 ≤ length verdicts) × Sizes size
+
 -- a step draws the object o in the state s; a step of the list does
 unfoldable pub draws : Step → ℕ → ℕ → Bool
 draws (Draw q t p) o s = eqb o q && eqb s t
@@ -52,6 +58,11 @@ draws (Hide q) o s = false
 unfoldable pub names : List Step → ℕ → ℕ → Bool
 names [] o s = false
 names (st ∷ h) o s = draws st o s || names h o s
+
+-- the steps whose images a call asks for: the history's, and the one that it makes
+abbrev pub askedBy : Call → List Step → List Step
+askedBy (Make st) h = st ∷ h
+askedBy TakeBack h = h
 
 -- the image's size alone gives no 12
 unfoldable pub sized : Room → ℕ → Bool

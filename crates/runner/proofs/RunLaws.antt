@@ -31,11 +31,11 @@ use Rattle.scene.specs.Session.{State, rightFor, sceneOf, unmade, tried, called
 use Rattle.scene.specs.declared.Step.{Step}
 use Rattle.scene.specs.declared.Step.the-variants.{Draw, Hide}
 use Rattle.layers.specs.Decoded.{decoded}
-use Rattle.play.specs.Bytes.{Lent, testOf, afterLoad, afterCall, numberOf, bytesAfter}
+use Rattle.play.specs.Bytes.{lent, Lent, testOf, afterLoad, afterCall, numberOf, bytesAfter}
 use Rattle.play.specs.Calls.{stateOf, callNumber}
 use Rattle.verdict.proofs.VerdictLaws.{LowTest, low-then, low-leftmost, low-block, low-plane, low-fault}
 use Rattle.runner.specs.Coded.{callAt, callsOf}
-use Rattle.runner.specs.Run.{lentOf, played, playedNumber, putFirst}
+use Rattle.runner.specs.Run.{played, playedNumber, putFirst}
 
 -- ---- a room's refusal
 
@@ -136,14 +136,6 @@ low-call s x c = on (testOf s x) (low-room _ s)
     on : (t : Tested) → LowTested t → callNumber s (x .session) (x .pixels) (x .masks) c t ≤ 13
     on (Right r) h = low-called s r (stateOf (decoded s r) (x .session) (x .pixels) (x .masks)) c
     on (Refused n) h = omega arith
-
--- what a call leaves, where the call is known by its bytes
-pub one-call : (s : List ℕ) (x : Lent) (c d : Call) (n : ℕ) (session pixels masks : List ℕ) → c ≡ d → n ≡ numberOf s x c
-    → session ≡ afterCall s x c .session → pixels ≡ afterCall s x c .pixels → masks ≡ afterCall s x c .masks
-    → (n ≡ numberOf s x d) × (lentOf session pixels masks ≡ afterCall s x d)
-one-call s x c d n session pixels masks e a p q t =
-    subst (λ (z : Call). (n ≡ numberOf s x z) × (lentOf session pixels masks ≡ afterCall s x z)) e
-    (a, λ i. record { session = p i; pixels = q i; masks = t i })
 
 -- ---- playing on
 

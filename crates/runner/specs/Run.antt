@@ -8,9 +8,6 @@ use Rattle.scene.specs.declared.Call.{Call}
 use Rattle.play.specs.Bytes.{Lent, testOf, afterCall, numberOf, bytesAfter}
 use Rattle.runner.specs.Coded.{callAt, callsOf}
 
-abbrev pub lentOf : (session pixels masks : List ℕ) → Lent
-lentOf session pixels masks = record { session = session; pixels = pixels; masks = masks }
-
 -- the bytes after calls, the newest first, from bytes that hold a session
 unfoldable pub played : List ℕ → Lent → List Call → Lent
 played s x [] = x

@@ -4,12 +4,12 @@ ghost use Prim.Native.Nat.{_+_, _*_, _≤_};
 ghost use lib.ListN.{length};
 ghost use Rattle.number.specs.Number.{le32};
 ghost use Rattle.scene.specs.declared.Call.the-variants.{Make};
-ghost use Rattle.play.specs.Bytes.{afterCall, numberOf};
-ghost use Rattle.runner.specs.Coded.{callOf, callAt, callsOf, callCount};
-ghost use Rattle.runner.specs.Run.{lentOf, played, playedNumber, putFirst};
+ghost use Rattle.play.specs.Bytes.{lent, afterCall, numberOf};
+ghost use Rattle.runner.specs.Coded.{callOf, callFrom, callAt, callsOf, callCount};
+ghost use Rattle.runner.specs.Run.{played, playedNumber, putFirst};
 use number::read_le32;
-use play::calls::act;
-use play::calls::take_back;
+use play::calls::call;
+use scene::Call;
 use scene::Place;
 use scene::Step;
 
@@ -39,6 +39,19 @@ fn step_from(calls: &[u8], at: usize, kind: u32) -> Step
     }
 }
 
+// The call in the 20 bytes from `at` on.
+fn call_from(calls: &[u8], at: usize) -> Call
+    requires { ⌜ at + 20 ≤ length (now calls) ⌝ }
+    ensures { λ r. ⌜ r ≡ callFrom (now (calls .entry)) at ⌝ }
+{
+    let kind = field(calls, at);
+    if 2 < kind {
+        return Call::TakeBack;
+    }
+    let step = step_from(calls, at, kind);
+    Call::Make(step)
+}
+
 // Plays call i: its number.
 fn play_one(
     room: &[u8],
@@ -49,16 +62,11 @@ fn play_one(
     i: usize,
 ) -> u8
     requires { ⌜ 20 * i + 20 ≤ length (now calls) ⌝ }
-    ensures { λ n. ⌜ n ≡ numberOf (now (room .entry)) (lentOf (now (session .entry)) (now (pixels .entry)) (now (masks .entry))) (callAt (now (calls .entry)) i) ⌝ }
-    ensures { λ _. ⌜ lentOf (now (session .exit)) (now (pixels .exit)) (now (masks .exit)) ≡ afterCall (now (room .entry)) (lentOf (now (session .entry)) (now (pixels .entry)) (now (masks .entry))) (callAt (now (calls .entry)) i) ⌝ }
+    ensures { λ n. ⌜ n ≡ numberOf (now (room .entry)) (lent (now (session .entry)) (now (pixels .entry)) (now (masks .entry))) (callAt (now (calls .entry)) i) ⌝ }
+    ensures { λ _. ⌜ lent (now (session .exit)) (now (pixels .exit)) (now (masks .exit)) ≡ afterCall (now (room .entry)) (lent (now (session .entry)) (now (pixels .entry)) (now (masks .entry))) (callAt (now (calls .entry)) i) ⌝ }
 {
-    let at = 20 * i;
-    let kind = field(calls, at);
-    if 2 < kind {
-        return take_back(room, session, pixels, masks) as u8;
-    }
-    let step = step_from(calls, at, kind);
-    act(room, session, pixels, masks, step) as u8
+    let next = call_from(calls, 20 * i);
+    call(room, session, pixels, masks, next) as u8
 }
 
 // How many calls are played: as many as `calls` has whole records and `numbers` has bytes.
@@ -79,8 +87,8 @@ pub fn play_all(
     calls: &[u8],
     numbers: &mut [u8],
 )
-    ensures { λ _. ⌜ lentOf (now (session .exit)) (now (pixels .exit)) (now (masks .exit)) ≡ played (now (room .entry)) (lentOf (now (session .entry)) (now (pixels .entry)) (now (masks .entry))) (callsOf (now (calls .entry)) (callCount (now (calls .entry)) (now (numbers .entry)))) ⌝ }
-    ensures { λ _. ⌜ now (numbers .exit) ≡ putFirst (playedNumber (now (room .entry)) (lentOf (now (session .entry)) (now (pixels .entry)) (now (masks .entry))) (now (calls .entry))) (callCount (now (calls .entry)) (now (numbers .entry))) (now (numbers .entry)) ⌝ }
+    ensures { λ _. ⌜ lent (now (session .exit)) (now (pixels .exit)) (now (masks .exit)) ≡ played (now (room .entry)) (lent (now (session .entry)) (now (pixels .entry)) (now (masks .entry))) (callsOf (now (calls .entry)) (callCount (now (calls .entry)) (now (numbers .entry)))) ⌝ }
+    ensures { λ _. ⌜ now (numbers .exit) ≡ putFirst (playedNumber (now (room .entry)) (lent (now (session .entry)) (now (pixels .entry)) (now (masks .entry))) (now (calls .entry))) (callCount (now (calls .entry)) (now (numbers .entry))) (now (numbers .entry)) ⌝ }
 {
     let n = call_count(calls, &numbers[..]);
     let mut i: usize = 0;

@@ -5,9 +5,9 @@ ghost use Rattle.room.specs.Test.{numberOf};
 ghost use Rattle.room.specs.declared.Room as rooms;
 ghost use Rattle.room.specs.declared.Tested.the-variants.{Right};
 ghost use Rattle.layers.specs.Decoded.{decoded};
-ghost use Rattle.play.specs.Bytes.{testOf};
+ghost use Rattle.play.specs.Bytes.{lent, testOf};
 ghost use Rattle.runner.specs.Coded.{callCount};
-ghost use Rattle.runner.specs.Run.{lentOf, bytesRun, numbersRun};
+ghost use Rattle.runner.specs.Run.{bytesRun, numbersRun};
 ghost use Rattle.runner.specs.Promise.{Demand3Held};
 use crate::calls::play_all;
 
@@ -22,10 +22,10 @@ pub fn run(
     calls: &[u8],
     numbers: &mut [u8],
 ) -> u32
-    ensures { λ n. ⌜ n ≡ numberOf (testOf (now (room .entry)) (lentOf (now (session .entry)) (now (pixels .entry)) (now (masks .entry)))) ⌝ }
-    ensures { λ _. ⌜ lentOf (now (session .exit)) (now (pixels .exit)) (now (masks .exit)) ≡ bytesRun (now (room .entry)) (lentOf (now (session .entry)) (now (pixels .entry)) (now (masks .entry))) (now (calls .entry)) (callCount (now (calls .entry)) (now (numbers .entry))) ⌝ }
-    ensures { λ _. ⌜ now (numbers .exit) ≡ numbersRun (now (room .entry)) (lentOf (now (session .entry)) (now (pixels .entry)) (now (masks .entry))) (now (calls .entry)) (callCount (now (calls .entry)) (now (numbers .entry))) (now (numbers .entry)) ⌝ }
-    ensures { λ _. ⌜ ((r : rooms.Room) → testOf (now (room .entry)) (lentOf (now (session .entry)) (now (pixels .entry)) (now (masks .entry))) ≡ Right r → Demand3Held (decoded (now (room .entry)) r) (lentOf (now (session .entry)) (now (pixels .entry)) (now (masks .entry))) (now (calls .entry)) (callCount (now (calls .entry)) (now (numbers .entry))) (now (numbers .exit)) (lentOf (now (session .exit)) (now (pixels .exit)) (now (masks .exit)))) ⌝ }
+    ensures { λ n. ⌜ n ≡ numberOf (testOf (now (room .entry)) (lent (now (session .entry)) (now (pixels .entry)) (now (masks .entry)))) ⌝ }
+    ensures { λ _. ⌜ lent (now (session .exit)) (now (pixels .exit)) (now (masks .exit)) ≡ bytesRun (now (room .entry)) (lent (now (session .entry)) (now (pixels .entry)) (now (masks .entry))) (now (calls .entry)) (callCount (now (calls .entry)) (now (numbers .entry))) ⌝ }
+    ensures { λ _. ⌜ now (numbers .exit) ≡ numbersRun (now (room .entry)) (lent (now (session .entry)) (now (pixels .entry)) (now (masks .entry))) (now (calls .entry)) (callCount (now (calls .entry)) (now (numbers .entry))) (now (numbers .entry)) ⌝ }
+    ensures { λ _. ⌜ ((r : rooms.Room) → testOf (now (room .entry)) (lent (now (session .entry)) (now (pixels .entry)) (now (masks .entry))) ≡ Right r → Demand3Held (decoded (now (room .entry)) r) (lent (now (session .entry)) (now (pixels .entry)) (now (masks .entry))) (now (calls .entry)) (callCount (now (calls .entry)) (now (numbers .entry))) (now (numbers .exit)) (lent (now (session .exit)) (now (pixels .exit)) (now (masks .exit)))) ⌝ }
 {
     let refusal = load::load(room, session, pixels, masks);
     if refusal != 0 {

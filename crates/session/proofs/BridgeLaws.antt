@@ -4,16 +4,18 @@ use mathlib.Core.Path.{_≡_, refl, ap, ap₂, _∙_}
 use mathlib.Core.Bool.{true, cond, _&&_}
 use mathlib.Core.List.{List, [], _∷_}
 use lib.ListN.{getD, length}
+use Rattle.scene.specs.declared.Call.{Call}
+use Rattle.scene.specs.declared.Call.the-variants.{Make, TakeBack}
 use Rattle.scene.specs.declared.Step.{Step}
 use Rattle.scene.specs.Painting.{Room}
-use Rattle.scene.specs.Steps.{Scene}
+use Rattle.scene.specs.Steps.{Scene, touches, bare, replay}
 use Rattle.scene.specs.Session.{Session, sameList, rightFor, sceneOf}
 use Rattle.stored.specs.Bytes.{sessionOf, stepsOf, allPlaced, marksFrom}
 use Rattle.replay.specs.declared.Size.{Size}
 use Rattle.replay.specs.Tables.{roomOfTables, draws, names, TablesAgree}
 use Rattle.replay.specs.Replay.{no, ok, judged}
-use Rattle.replay.proofs.TablesLaws.{judged-same, replay-same, replays-same}
-use Rattle.session.specs.Plans.{validShown, planned, undone, plannedBack}
+use Rattle.replay.proofs.TablesLaws.{judged-same, replay-same, replays-same, touches-same}
+use Rattle.session.specs.Plans.{validShown, planned, undone, newestTouches, callTouches}
 
 module _ (room : Room) (objects verdicts : List ℕ) (size : Size) (steps : List Step) (K : TablesAgree room objects verdicts size steps) where
   abbrev T : Room
@@ -38,6 +40,21 @@ module _ (room : Room) (objects verdicts : List ℕ) (size : Size) (steps : List
   undone-same [] = refl
   undone-same (st ∷ h) = ap (λ (sc : Scene). ok (sc .shown)) (replay-same room objects verdicts size steps K h)
 
+  -- the strips that a call rebuilds
+  newest-same : (h : List Step) (k : ℕ) → newestTouches room h k ≡ newestTouches T h k
+  unfolding newestTouches
+  newest-same [] k = refl
+  newest-same (st ∷ h) k =
+      ap (λ (sc : Scene). touches room sc st k) (replay-same room objects verdicts size steps K h)
+      ∙ touches-same room objects verdicts size steps K (replay T (bare T) h) st k
+
+  pub touches-known : (l : List ℕ) (c : Call) (k : ℕ) → callTouches room (sessionOf room l) c k ≡ callTouches T (sessionOf T l) c k
+  unfolding sessionOf
+  touches-known l (Make st) k =
+      ap (λ (sc : Scene). touches room sc st k) (ap (sceneOf room) (session-same l) ∙ scene-same (sessionOf T l))
+      ∙ touches-same room objects verdicts size steps K (sceneOf T (sessionOf T l)) st k
+  touches-known l TakeBack k = newest-same (stepsOf l) k
+
   module _ (l : List ℕ) (k : (o s : ℕ) → names (stepsOf l) o s ≡ true → names steps o s ≡ true) where
     right-bytes : rightFor room (sessionOf room l) ≡ rightFor T (sessionOf T l)
     unfolding sessionOf
@@ -47,11 +64,11 @@ module _ (room : Room) (objects verdicts : List ℕ) (size : Size) (steps : List
     unfolding validShown
     valid-same = λ i. cond (right-bytes i) (ok (session-same l i .shown)) (no 9)
 
-    pub back-same : plannedBack room l ≡ plannedBack T l
-    unfolding plannedBack sessionOf
+    pub back-same : planned room l TakeBack ≡ planned T l TakeBack
+    unfolding planned sessionOf
     back-same = λ i. cond (right-bytes i) (undone-same (stepsOf l) i) (no 9)
 
-    pub planned-same : (st : Step) → ((o s : ℕ) → draws st o s ≡ true → names steps o s ≡ true) → planned room l st ≡ planned T l st
+    pub planned-same : (st : Step) → ((o s : ℕ) → draws st o s ≡ true → names steps o s ≡ true) → planned room l (Make st) ≡ planned T l (Make st)
     unfolding planned
     planned-same st j =
         let n = length (sessionOf T l .history) in

@@ -7,6 +7,8 @@ use lib.Dec.{eqb}
 use lib.ListN.{getD, length}
 use native.Mathlib.Omega.{arith}
 use borrow.Author.Tests.{eq-eqb, ne-eqb, eqb-true, eqb-false, not-true}
+use Rattle.scene.specs.declared.Call.{Call}
+use Rattle.scene.specs.declared.Call.the-variants.{Make, TakeBack}
 use Rattle.scene.specs.declared.Entry.{Entry}
 use Rattle.scene.specs.declared.Place.the-variants.{Last, Strip}
 use Rattle.scene.specs.declared.Step.{Step}
@@ -17,9 +19,9 @@ use Rattle.scene.specs.Session.{rightFor, sceneOf}
 use Rattle.stored.specs.declared.Shown.{Shown}
 use Rattle.replay.specs.declared.Size.{Size}
 use Rattle.replay.specs.Tables.{verdictOf, roomOfTables, Sizes}
-use Rattle.stored.specs.Bytes.{down, stepAt, stepsOf, sessionOf, marksFrom, sameMarks, All, Small, SmallEntry, entries}
+use Rattle.stored.specs.Bytes.{down, stepAt, stepsOf, sessionOf, marksFrom, sameMarks, All, Small, SmallEntry, Storable, entries}
 use Rattle.replay.specs.Replay.{Plan, no, ok, judged, planOf, Replayed}
-use Rattle.session.specs.Plans.{validShown, planned, undone, plannedBack}
+use Rattle.session.specs.Plans.{validShown, planned, undone}
 use Rattle.stored.proofs.Lists.{all-map, some-all}
 use Rattle.replay.proofs.TablesLaws.{verdict-bounds, allowed-bounds}
 use Rattle.replay.proofs.JudgedLaws.{plan-no, plan-ok, plan-means, no-one}
@@ -83,32 +85,32 @@ module _ (room : Room) (l : List ℕ) (s : Shown) (e : planOf s ≡ validShown r
   unfolding validShown
   list-is z = plan-means s (rightFor room (sessionOf room l)) 9 (sessionOf room l .shown) e .1 z
 
+  pub list-zero : rightFor room (sessionOf room l) ≡ true → s .refusal ≡ 0
+  unfolding validShown
+  list-zero h = eqb-true (s .refusal) 0 (plan-means s (rightFor room (sessionOf room l)) 9 (sessionOf room l .shown) e .0 ∙ h)
+
   -- the session is not right
   nine : (s .refusal ≡ 0 → ⊥) → planOf s ≡ no 9
   unfolding validShown
   nine h = e ∙ rw (right-if false (ne-eqb (s .refusal) 0 h))
 
-  pub plan-wrong : (st : Step) → (s .refusal ≡ 0 → ⊥) → planOf s ≡ planned room l st
+  pub plan-wrong : (c : Call) → (s .refusal ≡ 0 → ⊥) → planOf s ≡ planned room l c
   unfolding planned
-  plan-wrong st h = nine h ∙ rw (right-if false (ne-eqb (s .refusal) 0 h))
-
-  pub back-wrong : (s .refusal ≡ 0 → ⊥) → planOf s ≡ plannedBack room l
-  unfolding plannedBack
-  back-wrong h = nine h ∙ rw (right-if false (ne-eqb (s .refusal) 0 h))
+  plan-wrong c h = nine h ∙ rw (right-if false (ne-eqb (s .refusal) 0 h))
 
   module _ (z : s .refusal ≡ 0) (r : Shown) (n : ℕ) (en : n ≡ getD l 0 0) where
     right : rightFor room (sessionOf room l) ≡ true
     right = right-if true (eq-eqb (s .refusal) 0 z)
 
     -- the history has no room for a step
-    pub plan-full : (st : Step) → n ≡ 64 → r .refusal ≡ 10 → planOf r ≡ planned room l st
+    pub plan-full : (st : Step) → n ≡ 64 → r .refusal ≡ 10 → planOf r ≡ planned room l (Make st)
     unfolding planned sessionOf
     plan-full st f g =
         plan-no r 10 g (λ q. omega arith)
         ∙ sym (rw right (judged-full room (length (stepsOf l)) (sceneOf room (sessionOf room l)) st (length-down (stepAt l) (getD l 0 0) ∙ sym en ∙ f)))
 
     pub plan-yes : (st : Step) → planOf r ≡ judged room n (record { shown = entries s; last = replay room (bare room) (down (stepAt l) n) .last }) st
-        → planOf r ≡ planned room l st
+        → planOf r ≡ planned room l (Make st)
     unfolding planned sceneOf sessionOf
     plan-yes st f =
         let same : _≡_ {A = Scene} (record { shown = entries s; last = replay room (bare room) (down (stepAt l) n) .last }) (sceneOf room (sessionOf room l)) =
@@ -117,8 +119,8 @@ module _ (room : Room) (l : List ℕ) (s : Shown) (e : planOf s ≡ validShown r
         ∙ ap₂ (λ (k : ℕ) (c : Scene). judged room k c st) (en ∙ sym (length-down (stepAt l) (getD l 0 0))) same
         ∙ sym (rw right)
 
-    pub back-none : n ≡ 0 → r .refusal ≡ 13 → planOf r ≡ plannedBack room l
-    unfolding plannedBack sessionOf undone
+    pub back-none : n ≡ 0 → r .refusal ≡ 13 → planOf r ≡ planned room l TakeBack
+    unfolding planned sessionOf undone
     back-none f g =
         plan-no r 13 g (λ q. omega arith)
         ∙ sym (rw right (ap (undone room) (ap (down (stepAt l)) (sym en ∙ f))))
@@ -139,8 +141,8 @@ module _ (room : Room) (l : List ℕ) (s : Shown) (e : planOf s ≡ validShown r
       accepted : r .refusal ≡ 0
       accepted = eqb-true (r .refusal) 0 (R .right ∙ older)
 
-      pub back-yes : planOf r ≡ plannedBack room l
-      unfolding plannedBack sessionOf undone
+      pub back-yes : planOf r ≡ planned room l TakeBack
+      unfolding planned sessionOf undone
       back-yes =
           plan-ok r (replay room (bare room) (down (stepAt l) (n - 1)) .shown) accepted (R .list accepted)
           ∙ sym (rw right (ap (undone room) (newest h)))
@@ -154,7 +156,18 @@ plan-and r false X k e q =
     let z : _≡_ {A = ℕ} 0 1 = cc in
     absurd (no-one z)
 
-pub accepted-plan : (room : Room) (l : List ℕ) (st : Step) (r : Shown) → planOf r ≡ planned room l st → r .refusal ≡ 0
+undone-means : (room : Room) (l : List ℕ) (r : Shown) → r .refusal ≡ 0 → (n : ℕ) → planOf r ≡ undone room (down (stepAt l) n)
+    → (down (stepAt l) n ≡ stepAt l (n - 1) ∷ down (stepAt l) (n - 1)) × (entries r ≡ replay room (bare room) (down (stepAt l) (n - 1)) .shown)
+unfolding undone
+undone-means room l r q zero f =
+    let g : ok (entries r) ≡ no 13 = sym (plan-ok r (entries r) q refl) ∙ f in
+    let z : _≡_ {A = ℕ} 0 1 = cc in
+    absurd (no-one z)
+undone-means room l r q (suc n) f =
+    let one : suc n - 1 ≡ n = omega arith in
+    rw one (refl, plan-means r true 0 (replay room (bare room) (down (stepAt l) n) .shown) f .1 q)
+
+pub accepted-plan : (room : Room) (l : List ℕ) (st : Step) (r : Shown) → planOf r ≡ planned room l (Make st) → r .refusal ≡ 0
     → (rightFor room (sessionOf room l) ≡ true) × (refusal room (length (stepsOf l)) (replay room (bare room) (stepsOf l)) st ≡ 0)
     × (entries r ≡ applied room (replay room (bare room) (stepsOf l)) st .shown)
 unfolding planned judged sessionOf
@@ -167,6 +180,16 @@ accepted-plan room l st r e q =
     a .1 ∙ ap (λ (c : Scene). judged room n c st) (right-scene room l (a .0)) in
     let m = plan-means r (eqb k 0) k (applied room sc st .shown) f in
     (a .0, eqb-true k 0 (sym (m .0) ∙ eq-eqb (r .refusal) 0 q), m .1 q)
+
+-- a take-back that is accepted has a newest step, and leaves the list of the others
+pub accepted-back : (room : Room) (l : List ℕ) (r : Shown) → planOf r ≡ planned room l TakeBack → r .refusal ≡ 0
+    → (rightFor room (sessionOf room l) ≡ true) × (stepsOf l ≡ stepAt l (getD l 0 0 - 1) ∷ down (stepAt l) (getD l 0 0 - 1))
+    × (entries r ≡ replay room (bare room) (down (stepAt l) (getD l 0 0 - 1)) .shown)
+unfolding planned sessionOf
+accepted-back room l r e q =
+    let a = plan-and r (rightFor room (sessionOf room l)) (undone room (stepsOf l)) 9 e q in
+    let b = undone-means room l r q (getD l 0 0) (a .1) in
+    (a .0, b .0, b .1)
 
 module _ (objects verdicts : List ℕ) (size : Size) (z : Sizes size) where
   abbrev T : Room
@@ -197,18 +220,21 @@ module _ (objects verdicts : List ℕ) (size : Size) (z : Sizes size) where
       let b = strip-bounds sc o s x y (d .1) in
       (t .0, t .1, omega arith, omega arith)
 
-  pub planned-small : (l : List ℕ) (st : Step) (r : Shown) → planOf r ≡ planned T l st → r .refusal ≡ 0
-      → (getD l 0 0 < 64) × Small st × All SmallEntry (entries r)
-  planned-small l st r e q =
+  -- an accepted call can be stored
+  pub planned-small : (l : List ℕ) (c : Call) (r : Shown) → planOf r ≡ planned T l c → r .refusal ≡ 0 → Storable l c × All SmallEntry (entries r)
+  planned-small l (Make st) r e q =
       let a = accepted-plan T l st r e q in
       let t = all-there T (stepsOf l) (right-shown T l (a .0) .0) in
       let few = accepted-few T (length (stepsOf l)) (replay T (bare T) (stepsOf l)) st (a .1) in
-      let n = length-down (stepAt l) (getD l 0 0) in (
-        omega arith,
-        step-small (length (stepsOf l)) (replay T (bare T) (stepsOf l)) st t (a .1),
-        subst (All SmallEntry) (sym (a .2)) (all-small (applied T (replay T (bare T) (stepsOf l)) st .shown) (applied-there T (length (stepsOf l)) (replay T (bare T) (stepsOf l)) st (a .1) t)),
+      let n = length-down (stepAt l) (getD l 0 0) in
+      let es = applied T (replay T (bare T) (stepsOf l)) st .shown in (
+        (omega arith, step-small (length (stepsOf l)) (replay T (bare T) (stepsOf l)) st t (a .1)),
+        subst (All SmallEntry) (sym (a .2)) (all-small es (applied-there T (length (stepsOf l)) (replay T (bare T) (stepsOf l)) st (a .1) t)),
       )
-
-  pub back-small : (h : List Step) (r : Shown) → Replayed T h r → r .refusal ≡ 0 → All SmallEntry (entries r)
-  back-small h r R q =
-      subst (All SmallEntry) (sym (R .list q)) (all-small (replay T (bare T) h .shown) (all-there T h (sym (R .right) ∙ eq-eqb (r .refusal) 0 q)))
+  planned-small l TakeBack r e q =
+      let a = accepted-back T l r e q in
+      let h = down (stepAt l) (getD l 0 0 - 1) in
+      let n = length-down (stepAt l) (getD l 0 0) in
+      let some = ap length (a .1) in
+      let older = replays-older T (stepAt l (getD l 0 0 - 1)) h (subst (λ (k : List Step). replays T (bare T) k ≡ true) (a .1) (right-shown T l (a .0) .0)) in
+      (omega arith, subst (All SmallEntry) (sym (a .2)) (all-small (replay T (bare T) h .shown) (all-there T h (older .0))))

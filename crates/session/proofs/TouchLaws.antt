@@ -1,5 +1,5 @@
 -- Laws of the strips that a step touches. Assumes nothing.
-use Prim.Native.Nat.{ℕ, _+_, _<_}
+use Prim.Native.Nat.{ℕ, _+_, _-_, _<_}
 use mathlib.Core.Path.{_≡_, refl, sym, ap, subst, _∙_}
 use mathlib.Core.Bool.{Bool, true, false, cond}
 use mathlib.Core.List.{List, [], _∷_, _++_}
@@ -10,21 +10,27 @@ use lib.Seq.{getD-set-same, getD-set-other, ext-getD}
 use native.Mathlib.Omega.{arith}
 use native.Mathlib.Nat.{eq-or-lt-of-le}
 use borrow.Author.Tests.{lt-ltb, le-ltb, ltb-true, ltb-false, eqb-true, eqb-false}
+use Rattle.scene.specs.declared.Call.the-variants.{Make, TakeBack}
 use Rattle.scene.specs.declared.Entry.{Entry}
 use Rattle.scene.specs.declared.Place.{Place}
 use Rattle.scene.specs.declared.Step.{Step}
 use Rattle.scene.specs.declared.Step.the-variants.{Draw, Hide}
 use Rattle.scene.specs.Painting.{Room, covers}
-use Rattle.scene.specs.Steps.{Scene, some, only, spotOf, entryOf, clash, removes, adds, touches, allowed, refusal}
+use Rattle.scene.specs.Steps.{Scene, some, only, spotOf, entryOf, clash, removes, adds, touches, allowed, refusal, bare, replay, replays}
+use Rattle.scene.specs.Session.{sceneOf}
 use Rattle.grid.proofs.Upd.{length-upd, getD-upd}
 use Rattle.replay.specs.declared.Size.{Size}
 use Rattle.replay.specs.declared.Spot.{Spot}
 use Rattle.replay.specs.Tables.{roomOfTables, Sizes}
-use Rattle.replay.specs.Replay.{IsAt, goes}
-use Rattle.session.specs.Plans.{flag, flagged}
+use Rattle.replay.specs.Replay.{IsAt, goes, planOf, sceneAfter}
+use Rattle.stored.specs.declared.Shown.{Shown}
+use Rattle.stored.specs.Bytes.{down, stepAt, stepsOf, sessionOf, entries}
+use Rattle.session.specs.Plans.{flag, flagged, validShown, planned, newestTouches, callTouches}
 use Rattle.replay.proofs.Lists.{or-false, append-nil}
 use Rattle.replay.proofs.TablesLaws.{allowed-bounds}
-use Rattle.replay.proofs.ReplayLaws.{accepted-draw}
+use Rattle.replay.proofs.ReplayLaws.{accepted-draw, replays-older, right-shown}
+use Rattle.stored.proofs.BytesLaws.{length-down}
+use Rattle.session.proofs.PlanLaws.{accepted-plan, accepted-back, list-is, list-zero}
 
 either : {A B C : Type 0} → A ⊎ B → (A → C) → (B → C) → C
 either s f g = ⊎-elim f g s
@@ -109,3 +115,40 @@ pub touched-is : (room : Room) (sc : Scene) (st : Step) (n : ℕ) (l m : List �
     → m ≡ flagged (touches room sc st) n l
 unfolding touches
 touched-is room sc st n l m es p q = p ∙ ap (λ (x : List Entry). flagged (λ k. some (λ e. covers room e k) x) n l) q
+
+-- ---- what is asked of an accepted step, and of the newest step of a session that is taken back; the strips of a call
+
+module _ (room : Room) (l : List ℕ) where
+  module _ (st : Step) (s r : Shown) (p : planOf s ≡ validShown room l) (q : planOf r ≡ planned room l (Make st)) (y : r .refusal ≡ 0) where
+    pub before-zero : s .refusal ≡ 0
+    before-zero = list-zero room l s p (accepted-plan room l st r q y .0)
+
+    pub step-ready : refusal room (getD l 0 0) (sceneAfter room (stepsOf l) (entries s)) st ≡ 0
+    step-ready =
+        let a = accepted-plan room l st r q y in
+        let m = list-is room l s p before-zero ∙ right-shown room l (a .0) .1 in
+        (λ i. refusal room (sym (length-down (stepAt l) (getD l 0 0)) i) (sceneAfter room (stepsOf l) (m i)) st) ∙ a .1
+
+    pub step-touches : touches room (sceneAfter room (stepsOf l) (entries s)) st ≡ callTouches room (sessionOf room l) (Make st)
+    unfolding sceneOf sessionOf
+    step-touches = λ i. touches room (sceneAfter room (stepsOf l) (list-is room l s p before-zero i)) st
+
+  module _ (r : Shown) (q : planOf r ≡ planned room l TakeBack) (y : r .refusal ≡ 0) where
+    abbrev older : List Step
+    older = down (stepAt l) (getD l 0 0 - 1)
+
+    abbrev newest : Step
+    newest = stepAt l (getD l 0 0 - 1)
+
+    pub back-ready : refusal room (getD l 0 0 - 1) (sceneAfter room older (entries r)) newest ≡ 0
+    back-ready =
+        let a = accepted-back room l r q y in
+        let all = subst (λ (h : List Step). replays room (bare room) h ≡ true) (a .1) (right-shown room l (a .0) .0) in
+        (λ i. refusal room (sym (length-down (stepAt l) (getD l 0 0 - 1)) i) (sceneAfter room older (a .2 i)) newest)
+        ∙ replays-older room newest older all .1
+
+    pub back-touches : touches room (sceneAfter room older (entries r)) newest ≡ callTouches room (sessionOf room l) TakeBack
+    unfolding newestTouches sessionOf
+    back-touches =
+        let a = accepted-back room l r q y in
+        (λ i. touches room (sceneAfter room older (a .2 i)) newest) ∙ sym (ap (newestTouches room) (a .1))

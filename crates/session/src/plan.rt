@@ -2,24 +2,27 @@
 ghost use mathlib.Core.Path.{_≡_};
 ghost use Prim.Native.Nat.{_≤_, _<_};
 ghost use lib.ListN.{length, getD};
-ghost use Rattle.replay.specs.Tables.{roomOfTables, Sizes};
-ghost use Rattle.stored.specs.Bytes.{Small, SmallEntry, All, entries};
+ghost use Rattle.scene.specs.declared.Call.the-variants.{Make, TakeBack};
+ghost use Rattle.replay.specs.Tables.{roomOfTables, LongEnough};
 ghost use Rattle.replay.specs.Replay.{planOf};
-ghost use Rattle.session.specs.Plans.{validShown, planned, plannedBack};
+ghost use Rattle.session.specs.Plans.{ValidList, planned, Planned};
+use crate::touch::touched;
 use replay::Size;
 use replay::history::replayed;
 use replay::history::step_on;
 use replay::list::empty;
 use replay::list::refused;
+use scene::Call;
 use scene::Step;
 use stored::Shown;
 use stored::bytes::agrees;
 use stored::bytes::count;
+use stored::bytes::step_at;
 
 // The list of a session that is right for the room; else refusal 9.
 pub fn valid_shown(session: &[u8], objects: &[u32], verdicts: &[u8], size: Size) -> Shown
-    requires { ⌜ (450 ≤ length (now session)) × (1032 ≤ length (now objects)) × (1290 ≤ length (now verdicts)) × Sizes size ⌝ }
-    ensures { λ r. ⌜ (planOf r ≡ validShown (roomOfTables (now (objects .entry)) (now (verdicts .entry)) size) (now (session .entry))) × (r .n ≤ 64) × (r .refusal ≡ 0 → (r .n ≤ getD (now (session .entry)) 0 0) × (getD (now (session .entry)) 0 0 ≤ 64)) ⌝ }
+    requires { ⌜ LongEnough (now session) (now objects) (now verdicts) size ⌝ }
+    ensures { λ r. ⌜ ValidList (roomOfTables (now (objects .entry)) (now (verdicts .entry)) size) (now (session .entry)) r ⌝ }
 {
     let n = count(session[0]);
     if n <= 64 {
@@ -35,8 +38,8 @@ pub fn valid_shown(session: &[u8], objects: &[u32], verdicts: &[u8], size: Size)
     refused(empty(), 9)
 }
 
-// A draw or a hide of a session whose list is s.
-pub fn plan_on(
+// A draw or a hide of a session whose list is s, or its refusal 9.
+fn plan_on(
     session: &[u8],
     objects: &[u32],
     verdicts: &[u8],
@@ -44,8 +47,10 @@ pub fn plan_on(
     s: Shown,
     step: Step,
 ) -> Shown
-    requires { ⌜ (450 ≤ length (now session)) × (1032 ≤ length (now objects)) × (1290 ≤ length (now verdicts)) × Sizes size × (planOf s ≡ validShown (roomOfTables (now objects) (now verdicts) size) (now session)) × (s .n ≤ 64) × (s .refusal ≡ 0 → (s .n ≤ getD (now session) 0 0) × (getD (now session) 0 0 ≤ 64)) ⌝ }
-    ensures { λ r. ⌜ (planOf r ≡ planned (roomOfTables (now (objects .entry)) (now (verdicts .entry)) size) (now (session .entry)) step) × (r .n ≤ 64) × (r .refusal ≡ 0 → (getD (now (session .entry)) 0 0 < 64) × Small step × All SmallEntry (entries r)) ⌝ }
+    requires { ⌜ LongEnough (now session) (now objects) (now verdicts) size ⌝ }
+    requires { ⌜ ValidList (roomOfTables (now objects) (now verdicts) size) (now session) s ⌝ }
+    ensures { λ r. ⌜ planOf r ≡ planned (roomOfTables (now (objects .entry)) (now (verdicts .entry)) size) (now (session .entry)) (Make step) ⌝ }
+    ensures { λ r. ⌜ r .n ≤ 64 ⌝ }
 {
     if s.refusal != 0 {
         return s;
@@ -58,9 +63,10 @@ pub fn plan_on(
 }
 
 // A take-back: the shown list of all steps but the newest, or its refusal.
-pub fn plan_back(session: &[u8], objects: &[u32], verdicts: &[u8], size: Size) -> Shown
-    requires { ⌜ (450 ≤ length (now session)) × (1032 ≤ length (now objects)) × (1290 ≤ length (now verdicts)) × Sizes size ⌝ }
-    ensures { λ r. ⌜ (planOf r ≡ plannedBack (roomOfTables (now (objects .entry)) (now (verdicts .entry)) size) (now (session .entry))) × (r .n ≤ 64) × (r .refusal ≡ 0 → (0 < getD (now (session .entry)) 0 0) × All SmallEntry (entries r) × (getD (now (session .entry)) 0 0 ≤ 64) × (r .n < getD (now (session .entry)) 0 0)) ⌝ }
+fn plan_back(session: &[u8], objects: &[u32], verdicts: &[u8], size: Size) -> Shown
+    requires { ⌜ LongEnough (now session) (now objects) (now verdicts) size ⌝ }
+    ensures { λ r. ⌜ planOf r ≡ planned (roomOfTables (now (objects .entry)) (now (verdicts .entry)) size) (now (session .entry)) TakeBack ⌝ }
+    ensures { λ r. ⌜ (r .n ≤ 64) × (r .refusal ≡ 0 → (getD (now (session .entry)) 0 0 ≤ 64) × (r .n < getD (now (session .entry)) 0 0)) ⌝ }
 {
     let s = valid_shown(session, objects, verdicts, size);
     if s.refusal != 0 {
@@ -71,4 +77,69 @@ pub fn plan_back(session: &[u8], objects: &[u32], verdicts: &[u8], size: Size) -
         return refused(s, 13);
     }
     replayed(session, objects, verdicts, size, n - 1)
+}
+
+// A draw or a hide: the list after it, or its refusal. Where it is accepted, the strips that it touches are marked.
+fn plan_step(
+    session: &[u8],
+    objects: &[u32],
+    verdicts: &[u8],
+    size: Size,
+    step: Step,
+    strips: &mut [u8],
+) -> Shown
+    requires { ⌜ LongEnough (now session) (now objects) (now verdicts) size ⌝ }
+    requires { ⌜ 128 ≤ length (now strips) ⌝ }
+    ensures { λ r. ⌜ Planned (roomOfTables (now (objects .entry)) (now (verdicts .entry)) size) (now (session .entry)) (Make step)
+        (now (strips .entry)) (now (strips .exit)) r ⌝ }
+{
+    let before = valid_shown(session, objects, verdicts, size);
+    let after = plan_on(session, objects, verdicts, size, before, step);
+    if after.refusal == 0 {
+        let n = count(session[0]);
+        touched(strips, session, objects, size, n, before, step);
+    }
+    after
+}
+
+// A take-back: the list before the newest step, or its refusal. Where it is accepted, the strips that the step touched are marked.
+fn plan_undo(
+    session: &[u8],
+    objects: &[u32],
+    verdicts: &[u8],
+    size: Size,
+    strips: &mut [u8],
+) -> Shown
+    requires { ⌜ LongEnough (now session) (now objects) (now verdicts) size ⌝ }
+    requires { ⌜ 128 ≤ length (now strips) ⌝ }
+    ensures { λ r. ⌜ Planned (roomOfTables (now (objects .entry)) (now (verdicts .entry)) size) (now (session .entry)) TakeBack
+        (now (strips .entry)) (now (strips .exit)) r ⌝ }
+{
+    let after = plan_back(session, objects, verdicts, size);
+    if after.refusal == 0 {
+        let n = count(session[0]) - 1;
+        let step = step_at(session, n);
+        touched(strips, session, objects, size, n, after, step);
+    }
+    after
+}
+
+// A call: the list after it, or its refusal. Where it is accepted, the strips to rebuild are marked.
+pub fn plan(
+    session: &[u8],
+    objects: &[u32],
+    verdicts: &[u8],
+    size: Size,
+    call: Call,
+    strips: &mut [u8],
+) -> Shown
+    requires { ⌜ LongEnough (now session) (now objects) (now verdicts) size ⌝ }
+    requires { ⌜ 128 ≤ length (now strips) ⌝ }
+    ensures { λ r. ⌜ Planned (roomOfTables (now (objects .entry)) (now (verdicts .entry)) size) (now (session .entry)) call
+        (now (strips .entry)) (now (strips .exit)) r ⌝ }
+{
+    match call {
+        Call::Make(step) => plan_step(session, objects, verdicts, size, step, strips),
+        Call::TakeBack => plan_undo(session, objects, verdicts, size, strips),
+    }
 }

@@ -7,11 +7,12 @@ use lib.ListN.{getD, set, take, drop, length, length-set}
 use lib.Seq.{getD-set-same, getD-set-other, drop-cons, getD-take, length-take-le, drop-length}
 use native.Mathlib.Omega.{arith}
 use native.Mathlib.Numerals.{add-one}
+use Rattle.scene.specs.declared.Call.the-variants.{Make, TakeBack}
 use Rattle.scene.specs.declared.Entry.{Entry}
 use Rattle.scene.specs.declared.Place.the-variants.{Last, Strip}
 use Rattle.scene.specs.declared.Step.{Step}
 use Rattle.scene.specs.declared.Step.the-variants.{Draw, Hide}
-use Rattle.stored.specs.Bytes.{down, stepOf, stepAt, kindOf, objectOf, stateOf, aOf, bOf, put5, putStep, Mark, mark, markAt, marksFrom, isMark, sameMarks, putMarks, putShown, stepsOf, putNewest, dropNewest, afterStep, afterBack, All, SmallEntry}
+use Rattle.stored.specs.Bytes.{down, stepOf, stepAt, kindOf, objectOf, stateOf, aOf, bOf, put5, putStep, Mark, mark, markAt, marksFrom, isMark, sameMarks, putMarks, putShown, stepsOf, putHistory, putCall, All, SmallEntry}
 use Rattle.stored.proofs.Lists.{all-at}
 
 pub stepOf-strip : (k o s a b : ℕ) → (k ≡ 0 → ⊥) → (k ≡ 1 → ⊥) → Draw o s (Strip a b) ≡ stepOf k o s a b
@@ -163,23 +164,23 @@ module _ (l : List ℕ) (st : Step) (es : List Entry) (long : 450 ≤ length l) 
   put-length : length (putStep l n st) ≡ length l
   put-length = length-put5 l (2 + 5 * n) (kindOf st) (objectOf st) (stateOf st) (aOf st) (bOf st)
 
-  pub newest-length : length (putNewest l st) ≡ length l
+  pub newest-length : length (putHistory l (Make st)) ≡ length l
   newest-length = length-set (putStep l n st) 0 (n + 1) ∙ put-length
 
-  after-first : getD (afterStep l st es) 0 0 ≡ suc n
-  after-first = shown-first (putNewest l st) es ∙ getD-set-same (putStep l n st) 0 (n + 1) 0 (omega (arith, put-length)) ∙ add-one n
+  after-first : getD (putCall l (Make st) es) 0 0 ≡ suc n
+  after-first = shown-first (putHistory l (Make st)) es ∙ getD-set-same (putStep l n st) 0 (n + 1) 0 (omega (arith, put-length)) ∙ add-one n
 
-  after-at : (i : ℕ) → i < 64 → stepAt (afterStep l st es) i ≡ stepAt (putStep l n st) i
+  after-at : (i : ℕ) → i < 64 → stepAt (putCall l (Make st) es) i ≡ stepAt (putStep l n st) i
   after-at i g =
-      shown-step (putNewest l st) es i g
-      ∙ stepAt-same (putNewest l st) (putStep l n st) i (λ j a b. after (putStep l n st) 0 j (n + 1) (omega arith))
+      shown-step (putHistory l (Make st)) es i g
+      ∙ stepAt-same (putHistory l (Make st)) (putStep l n st) i (λ j a b. after (putStep l n st) 0 j (n + 1) (omega arith))
 
   -- the history read back is the step before the history that was there
-  pub steps-after : stepsOf (afterStep l st es) ≡ st ∷ stepsOf l
+  pub steps-after : stepsOf (putCall l (Make st) es) ≡ st ∷ stepsOf l
   steps-after =
-      ap (down (stepAt (afterStep l st es))) after-first
+      ap (down (stepAt (putCall l (Make st) es))) after-first
       ∙ ap₂ _∷_ (after-at n few ∙ step-back l n st (omega arith))
-      (down-same (stepAt (afterStep l st es)) (stepAt l) n (λ j g. after-at j (omega arith) ∙ step-kept l n st j g))
+      (down-same (stepAt (putCall l (Make st) es)) (stepAt l) n (λ j g. after-at j (omega arith) ∙ step-kept l n st j g))
 
 module _ (l : List ℕ) (st : Step) (h : List Step) (es : List Entry) (long : 450 ≤ length l) (few : getD l 0 0 ≤ 64) (e : stepsOf l ≡ st ∷ h) where
   counted : getD l 0 0 ≡ suc (length h)
@@ -188,17 +189,17 @@ module _ (l : List ℕ) (st : Step) (h : List Step) (es : List Entry) (long : 45
   older-is : down (stepAt l) (length h) ≡ h
   older-is = let s : down (stepAt l) (suc (length h)) ≡ st ∷ h = ap (down (stepAt l)) (sym counted) ∙ e in cc
 
-  pub dropped-length : length (dropNewest l) ≡ length l
+  pub dropped-length : length (putHistory l TakeBack) ≡ length l
   dropped-length = length-set l 0 (getD l 0 0 - 1)
 
-  pub steps-dropped : stepsOf (afterBack l es) ≡ h
+  pub steps-dropped : stepsOf (putCall l TakeBack es) ≡ h
   steps-dropped =
       let c = counted in
-      let one : getD (afterBack l es) 0 0 ≡ length h =
-      shown-first (dropNewest l) es ∙ getD-set-same l 0 (getD l 0 0 - 1) 0 (omega arith) ∙ omega arith in
-      ap (down (stepAt (afterBack l es))) one
-      ∙ down-same (stepAt (afterBack l es)) (stepAt l) (length h)
-      (λ j g. shown-step (dropNewest l) es j (omega arith) ∙ stepAt-same (dropNewest l) l j (λ i a b. after l 0 i (getD l 0 0 - 1) (omega arith)))
+      let one : getD (putCall l TakeBack es) 0 0 ≡ length h =
+      shown-first (putHistory l TakeBack) es ∙ getD-set-same l 0 (getD l 0 0 - 1) 0 (omega arith) ∙ omega arith in
+      ap (down (stepAt (putCall l TakeBack es))) one
+      ∙ down-same (stepAt (putCall l TakeBack es)) (stepAt l) (length h)
+      (λ j g. shown-step (putHistory l TakeBack) es j (omega arith) ∙ stepAt-same (putHistory l TakeBack) l j (λ i a b. after l 0 i (getD l 0 0 - 1) (omega arith)))
       ∙ older-is
 
 -- ---- the loops over marks

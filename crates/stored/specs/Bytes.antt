@@ -1,10 +1,12 @@
 -- A session in 450 lent bytes: the count of steps at 0, the count of shown entries at 1, step i at 2 + 5 i, the mark of shown entry j at
 -- 322 + 2 j, the oldest first. Bytes past the counts are not looked at. Assumes nothing.
-use Prim.Native.Nat.{ℕ, zero, suc, _+_, _*_, _-_, _≤_}
+use Prim.Native.Nat.{ℕ, zero, suc, _+_, _*_, _-_, _≤_, _<_}
 use mathlib.Core.Bool.{Bool, true, false, cond, _&&_}
 use mathlib.Core.List.{List, [], _∷_}
 use lib.Dec.{eqb, leb}
 use lib.ListN.{getD, set, take, length}
+use Rattle.scene.specs.declared.Call.{Call}
+use Rattle.scene.specs.declared.Call.the-variants.{Make, TakeBack}
 use Rattle.scene.specs.declared.Entry.{Entry}
 use Rattle.scene.specs.declared.Place.the-variants.{Last, Strip}
 use Rattle.scene.specs.declared.Step.{Step}
@@ -128,15 +130,16 @@ unfoldable pub sessionOf : Room → List ℕ → Session
 sessionOf room l =
     record { history = stepsOf l; shown = allPlaced (replay room (bare room) (stepsOf l) .last) (marksFrom l 0 (getD l 1 0)) }
 
--- the bytes after an accepted step, and after a take-back, that leave a shown list
-abbrev pub putNewest : List ℕ → Step → List ℕ
-putNewest l st = set (putStep l (getD l 0 0) st) 0 (getD l 0 0 + 1)
+-- the history after an accepted call: its step is put after the others, or the newest is dropped, whose record's bytes stay
+abbrev pub putHistory : List ℕ → Call → List ℕ
+putHistory l (Make st) = set (putStep l (getD l 0 0) st) 0 (getD l 0 0 + 1)
+putHistory l TakeBack = set l 0 (getD l 0 0 - 1)
 
-abbrev pub dropNewest : List ℕ → List ℕ
-dropNewest l = set l 0 (getD l 0 0 - 1)
+-- what it asks of the bytes: room for the step, or a step to drop
+abbrev pub Storable : List ℕ → Call → Type 0
+Storable l (Make st) = (getD l 0 0 < 64) × Small st
+Storable l TakeBack = 0 < getD l 0 0
 
-abbrev pub afterStep : List ℕ → Step → List Entry → List ℕ
-afterStep l st es = putShown (putNewest l st) es
-
-abbrev pub afterBack : List ℕ → List Entry → List ℕ
-afterBack l es = putShown (dropNewest l) es
+-- the bytes after an accepted call that leaves a shown list
+abbrev pub putCall : List ℕ → Call → List Entry → List ℕ
+putCall l c es = putShown (putHistory l c) es

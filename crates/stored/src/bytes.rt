@@ -2,9 +2,10 @@
 ghost use mathlib.Core.Path.{_≡_};
 ghost use Prim.Native.Nat.{_+_, _≤_, _<_};
 ghost use lib.ListN.{length, getD};
-ghost use Rattle.stored.specs.Bytes.{stepAt, putStep, Small, putNewest, dropNewest, putShown, marksFrom, sameMarks, isMark, mark};
+ghost use Rattle.stored.specs.Bytes.{stepAt, putStep, Small, Storable, putHistory, putShown, marksFrom, sameMarks, isMark, mark};
 ghost use Rattle.stored.specs.Bytes.{All, SmallEntry, entries};
 use crate::Shown;
+use scene::Call;
 use scene::Entry;
 use scene::Place;
 use scene::Step;
@@ -63,23 +64,21 @@ fn put_step(session: &mut [u8], i: usize, step: Step)
     }
 }
 
-// The newest step, put after the others.
-pub fn store_step(session: &mut [u8], step: Step)
-    requires { ⌜ (450 ≤ length (now session)) × (getD (now session) 0 0 < 64) × Small step ⌝ }
-    ensures { λ r. ⌜ now (session .exit) ≡ putNewest (now (session .entry)) step ⌝ }
+// The history after a call: its step is put after the others, or the newest is dropped, whose record's bytes stay.
+pub fn store_history(session: &mut [u8], call: Call)
+    requires { ⌜ (450 ≤ length (now session)) × Storable (now session) call ⌝ }
+    ensures { λ r. ⌜ now (session .exit) ≡ putHistory (now (session .entry)) call ⌝ }
 {
     let n = count(session[0]);
-    put_step(session, n, step);
-    session[0] = (n + 1) as u8;
-}
-
-// The newest step is dropped: its record's bytes stay.
-pub fn drop_step(session: &mut [u8])
-    requires { ⌜ (450 ≤ length (now session)) × (0 < getD (now session) 0 0) ⌝ }
-    ensures { λ r. ⌜ now (session .exit) ≡ dropNewest (now (session .entry)) ⌝ }
-{
-    let n = count(session[0]);
-    session[0] = (n - 1) as u8;
+    match call {
+        Call::Make(step) => {
+            put_step(session, n, step);
+            session[0] = (n + 1) as u8;
+        }
+        Call::TakeBack => {
+            session[0] = (n - 1) as u8;
+        }
+    }
 }
 
 pub fn store_shown(session: &mut [u8], s: Shown)

@@ -11,7 +11,7 @@ ghost use Rattle.scene.specs.declared.Place as place;
 ghost use Rattle.scene.specs.declared.Step as steps;
 ghost use Rattle.scene.specs.declared.Step.the-variants as variants;
 ghost use Rattle.stored.specs.Bytes.{readable};
-ghost use Rattle.replay.specs.Tables.{TablesAgree};
+ghost use Rattle.replay.specs.Tables.{TablesAgree, askedBy};
 ghost use Rattle.verdict.specs.Size.{sizeOf};
 ghost use Rattle.verdict.specs.Verdict.{Right, Judged};
 use block::Found;
@@ -20,6 +20,7 @@ use image::state::state_block;
 use image::test::test_image;
 use replay::tables::wide;
 use room::Room;
+use scene::Call;
 use scene::Step;
 use stored::bytes::count;
 use stored::bytes::step_at;
@@ -59,7 +60,8 @@ fn verdict_of(room: &[u8], r: Room, table: &[u32], o: usize, s: usize) -> u8
 fn judge_image(room: &[u8], r: Room, table: &[u32], o: usize, s: usize, verdicts: &mut [u8])
     requires { ⌜ Ready (now room) r (now table) × (r .objects ≡ objectCount (now room)) ⌝ }
     requires { ⌜ 1290 ≤ length (now verdicts) ⌝ }
-    ensures { λ _. ⌜ ((p : place.Place) (h : List steps.Step) → Judged (now (room .entry)) r (now (verdicts .entry)) h → Judged (now (room .entry)) r (now (verdicts .exit)) (variants.Draw o s p ∷ h)) ⌝ }
+    ensures { λ _. ⌜ ((p : place.Place) (h : List steps.Step) → Judged (now (room .entry)) r (now (verdicts .entry)) h
+        → Judged (now (room .entry)) r (now (verdicts .exit)) (variants.Draw o s p ∷ h)) ⌝ }
 {
     if o == 0 {
         return;
@@ -85,7 +87,8 @@ fn judge_image(room: &[u8], r: Room, table: &[u32], o: usize, s: usize, verdicts
 fn judge_step(room: &[u8], r: Room, table: &[u32], step: Step, verdicts: &mut [u8])
     requires { ⌜ Ready (now room) r (now table) × (r .objects ≡ objectCount (now room)) ⌝ }
     requires { ⌜ 1290 ≤ length (now verdicts) ⌝ }
-    ensures { λ _. ⌜ ((h : List steps.Step) → Judged (now (room .entry)) r (now (verdicts .entry)) h → Judged (now (room .entry)) r (now (verdicts .exit)) (step ∷ h)) ⌝ }
+    ensures { λ _. ⌜ ((h : List steps.Step) → Judged (now (room .entry)) r (now (verdicts .entry)) h
+        → Judged (now (room .entry)) r (now (verdicts .exit)) (step ∷ h)) ⌝ }
 {
     match step {
         Step::Draw(object, state, _) => {
@@ -120,17 +123,22 @@ fn judge_steps(room: &[u8], r: Room, table: &[u32], session: &[u8], verdicts: &m
 pub fn judge_history(room: &[u8], r: Room, table: &[u32], session: &[u8], verdicts: &mut [u8])
     requires { ⌜ Ready (now room) r (now table) × (r .objects ≡ objectCount (now room)) ⌝ }
     requires { ⌜ (450 ≤ length (now session)) × (1290 ≤ length (now verdicts)) ⌝ }
-    ensures { λ _. ⌜ TablesAgree (decoded (now (room .entry)) r) (now (table .entry)) (now (verdicts .exit)) (sizeOf r) (readable (now (session .entry))) ⌝ }
+    ensures { λ _. ⌜ TablesAgree (decoded (now (room .entry)) r) (now (table .entry)) (now (verdicts .exit)) (sizeOf r)
+        (readable (now (session .entry))) ⌝ }
 {
     judge_steps(room, r, table, session, verdicts);
 }
 
-// The verdicts of the images that the session's history and the step draw.
-pub fn judge(room: &[u8], r: Room, table: &[u32], session: &[u8], step: Step, verdicts: &mut [u8])
+// The verdicts of the images that the session's history and the call draw.
+pub fn judge(room: &[u8], r: Room, table: &[u32], session: &[u8], call: Call, verdicts: &mut [u8])
     requires { ⌜ Ready (now room) r (now table) × (r .objects ≡ objectCount (now room)) ⌝ }
     requires { ⌜ (450 ≤ length (now session)) × (1290 ≤ length (now verdicts)) ⌝ }
-    ensures { λ _. ⌜ TablesAgree (decoded (now (room .entry)) r) (now (table .entry)) (now (verdicts .exit)) (sizeOf r) (step ∷ readable (now (session .entry))) ⌝ }
+    ensures { λ _. ⌜ TablesAgree (decoded (now (room .entry)) r) (now (table .entry)) (now (verdicts .exit)) (sizeOf r)
+        (askedBy call (readable (now (session .entry)))) ⌝ }
 {
     judge_steps(room, r, table, session, verdicts);
-    judge_step(room, r, table, step, verdicts);
+    match call {
+        Call::Make(step) => judge_step(room, r, table, step, verdicts),
+        Call::TakeBack => {}
+    }
 }

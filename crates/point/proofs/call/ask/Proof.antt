@@ -43,7 +43,7 @@ returns : tie.Need-returns
 returns c =
     let a = c .before .before .before .before .before .before .before .before .before .before .before .before .args in
     let v = c .before .before .before .before .before .before .judge-history .last .1 .1 .1 .1 .0 in
-    asked-wrong (now (a .room)) (a .r) (now (a .table)) v (now (a .session)) (now (a .flags)) (a .x) (a .y) (c .before .before .before .before .before .before .judge-history .ensures) (c .before .before .valid-shown .result) (rw (c .before .before .before .before .size-of .ensures) at (c .before .before .valid-shown .ensures .0)) (c .if1 .taken)
+    asked-wrong (now (a .room)) (a .r) (now (a .table)) v (now (a .session)) (now (a .flags)) (a .x) (a .y) (c .before .before .before .before .before .before .judge-history .ensures) (c .before .before .valid-shown .result) (rw (c .before .before .before .before .size-of .ensures) at (c .before .before .valid-shown .ensures .plan)) (c .if1 .taken)
 
 -- src/call.rt:83:9
 wide-requires : tie.Need-wide-requires
@@ -58,21 +58,21 @@ returns-2 : tie.Need-returns-2
 returns-2 c =
     let a = c .before .before .before .before .before .before .before .before .before .before .before .before .before .before .before .before .args in
     let v = c .before .before .before .before .before .before .before .before .before .before .judge-history .last .1 .1 .1 .1 .0 in
-    asked-right-of (now (a .room)) (a .r) (now (a .table)) v (now (a .session)) (now (a .flags)) (a .x) (a .y) (c .before .before .before .before .before .before .before .before .before .before .judge-history .ensures) (c .before .before .before .before .before .before .valid-shown .result) (rw (c .before .before .before .before .before .before .before .before .size-of .ensures) at (c .before .before .before .before .before .before .valid-shown .ensures .0)) (c .before .before .before .before .if1 .left) (omega (arith, c .before .before .before .wide .ensures .0, c .if2 .taken))
+    asked-right-of (now (a .room)) (a .r) (now (a .table)) v (now (a .session)) (now (a .flags)) (a .x) (a .y) (c .before .before .before .before .before .before .before .before .before .before .judge-history .ensures) (c .before .before .before .before .before .before .valid-shown .result) (rw (c .before .before .before .before .before .before .before .before .size-of .ensures) at (c .before .before .before .before .before .before .valid-shown .ensures .plan)) (c .before .before .before .before .if1 .left) (omega (arith, c .before .before .before .wide .ensures .0, c .if2 .taken))
 
 -- src/call.rt:89:9
 returns-3 : tie.Need-returns-3
 returns-3 c =
     let a = c .before .before .before .before .before .before .before .before .before .before .before .before .before .before .before .before .before .before .args in
     let v = c .before .before .before .before .before .before .before .before .before .before .before .before .judge-history .last .1 .1 .1 .1 .0 in
-    asked-below (now (a .room)) (a .r) (now (a .table)) v (now (a .session)) (now (a .flags)) (a .x) (a .y) (c .before .before .before .before .before .before .before .before .before .before .before .before .judge-history .ensures) (c .before .before .before .before .before .before .before .before .valid-shown .result) (rw (c .before .before .before .before .before .before .before .before .before .before .size-of .ensures) at (c .before .before .before .before .before .before .before .before .valid-shown .ensures .0)) (c .before .before .before .before .before .before .if1 .left) (omega (arith, c .before .before .before .before .before .wide .ensures .0, c .before .before .if2 .left)) (omega (arith, c .before .before .before .before .wide2 .ensures .0, c .if3 .taken))
+    asked-below (now (a .room)) (a .r) (now (a .table)) v (now (a .session)) (now (a .flags)) (a .x) (a .y) (c .before .before .before .before .before .before .before .before .before .before .before .before .judge-history .ensures) (c .before .before .before .before .before .before .before .before .valid-shown .result) (rw (c .before .before .before .before .before .before .before .before .before .before .size-of .ensures) at (c .before .before .before .before .before .before .before .before .valid-shown .ensures .plan)) (c .before .before .before .before .before .before .if1 .left) (omega (arith, c .before .before .before .before .before .wide .ensures .0, c .before .before .if2 .left)) (omega (arith, c .before .before .before .before .wide2 .ensures .0, c .if3 .taken))
 
 -- src/call.rt:91:9
 seek-requires : tie.Need-seek-requires
 seek-requires c κs =
     let sound = c .before .before .before .before .before .before .before .before .before .before .before .before .before .before .before .before .before .before .pre .0 .0 .sound in
     let e = c .before .before .before .before .before .before .before .before .before .before .size-of .ensures in
-    ((rw e (c .before .before .before .before .before .before .before .before .before .before .before .before .before .before .before .before .before .before .pre .0 .1), rw e (omega (arith, sound .widest), sound .highest, sound .counted), rw e (c .before .before .before .before .before .before .before .before .before .before .before .before .before .before .before .before .before .before .pre .1 .1)), (c .before .before .before .before .before .before .before .before .before .before .before .before .before .before .before .before .before .before .pre .1 .0, c .before .before .before .before .before .before .before .before .valid-shown .ensures .2 (c .before .before .before .before .before .before .if1 .left) .1, c .before .before .before .before .before .before .before .before .valid-shown .ensures .1))
+    ((rw e (c .before .before .before .before .before .before .before .before .before .before .before .before .before .before .before .before .before .before .pre .0 .1), rw e (omega (arith, sound .widest), sound .highest, sound .counted), rw e (c .before .before .before .before .before .before .before .before .before .before .before .before .before .before .before .before .before .before .pre .1 .1)), (c .before .before .before .before .before .before .before .before .before .before .before .before .before .before .before .before .before .before .pre .1 .0, c .before .before .before .before .before .before .before .before .valid-shown .ensures .counted (c .before .before .before .before .before .before .if1 .left) .1, c .before .before .before .before .before .before .before .before .valid-shown .ensures .few))
 
 -- src/call.rt:92:5
 answer-requires : tie.Need-answer-requires
@@ -83,7 +83,7 @@ returns-4 : tie.Need-returns-4
 returns-4 c =
     let a = c .before .before .before .before .before .before .before .before .before .before .before .before .before .before .before .before .before .before .before .before .args in
     let v = c .before .before .before .before .before .before .before .before .before .before .before .before .before .before .judge-history .last .1 .1 .1 .1 .0 in
-    asked-in (now (a .room)) (a .r) (now (a .table)) v (now (a .session)) (now (a .flags)) (c .before .before .before .before .before .before .before .wide .result) (c .before .before .before .before .before .before .wide2 .result) (c .before .before .before .before .before .before .before .before .before .before .before .before .before .before .judge-history .ensures) (c .before .before .before .before .before .before .before .before .before .before .valid-shown .result) (rw (c .before .before .before .before .before .before .before .before .before .before .before .before .size-of .ensures) at (c .before .before .before .before .before .before .before .before .before .before .valid-shown .ensures .0)) (c .before .before .before .before .before .before .before .before .if1 .left) (omega (arith, c .before .before .before .before .if2 .left)) (omega (arith, c .before .before .if3 .left)) _ _ (c .answer .ensures) (c .before .seek .ensures)
+    asked-in (now (a .room)) (a .r) (now (a .table)) v (now (a .session)) (now (a .flags)) (c .before .before .before .before .before .before .before .wide .result) (c .before .before .before .before .before .before .wide2 .result) (c .before .before .before .before .before .before .before .before .before .before .before .before .before .before .judge-history .ensures) (c .before .before .before .before .before .before .before .before .before .before .valid-shown .result) (rw (c .before .before .before .before .before .before .before .before .before .before .before .before .size-of .ensures) at (c .before .before .before .before .before .before .before .before .before .before .valid-shown .ensures .plan)) (c .before .before .before .before .before .before .before .before .if1 .left) (omega (arith, c .before .before .before .before .if2 .left)) (omega (arith, c .before .before .if3 .left)) _ _ (c .answer .ensures) (c .before .seek .ensures)
     ∙ (λ i. asked (now (a .room)) (a .r) (now (a .session)) (now (a .flags)) (c .before .before .before .before .before .before .before .wide .ensures .0 i) (c .before .before .before .before .before .before .wide2 .ensures .0 i))
 
 pub ask-spec : {M : Type 1} → statement M

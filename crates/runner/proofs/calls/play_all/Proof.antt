@@ -6,7 +6,8 @@ use borrow.Author.Needs.{needs}
 use denote.Ref.{now}
 use lib.ListN.{length, length-set}
 use Rattle.runner.specs.Coded.{callsOf, callCount}
-use Rattle.runner.specs.Run.{lentOf, played, playedNumber, putFirst}
+use Rattle.play.specs.Bytes.{lent}
+use Rattle.runner.specs.Run.{played, playedNumber, putFirst}
 use Rattle.runner.proofs.RunLaws.{turn-bytes, turn-numbers}
 use Rattle.runner.proofs.calls.play_all.Statement.{statement}
 use Rattle.runner.proofs.calls.play_all.Tie as tie
@@ -14,8 +15,8 @@ use Rattle.runner.proofs.calls.play_all.Tie as tie
 abbrev Inv-loop : tie.InvT-loop
 Inv-loop room session₀ pixels₀ masks₀ calls numbers₀ n i₀ session pixels masks numbers i =
     (i ≤ n) × (length session ≡ length session₀) × (length pixels ≡ length pixels₀) × (length masks ≡ length masks₀) × (length numbers ≡ length numbers₀)
-    × (lentOf session pixels masks ≡ played room (lentOf session₀ pixels₀ masks₀) (callsOf calls i))
-    × (numbers ≡ putFirst (playedNumber room (lentOf session₀ pixels₀ masks₀) calls) i numbers₀)
+    × (lent session pixels masks ≡ played room (lent session₀ pixels₀ masks₀) (callsOf calls i))
+    × (numbers ≡ putFirst (playedNumber room (lent session₀ pixels₀ masks₀) calls) i numbers₀)
 
 abbrev μ-loop : tie.MeasureT-loop
 μ-loop room session₀ pixels₀ masks₀ calls numbers₀ n i₀ session pixels masks numbers i = n - i
@@ -41,9 +42,9 @@ loop-less c = omega arith
 
 loop-again : tie.Need-loop-again Inv-loop μ-loop
 loop-again c =
-    let x = lentOf (now (c .before .before .before .before .before .before .before .before .before .before .before .before .before .before .before .before .before .before .before .before .args .session)) (now (c .before .before .before .before .before .before .before .before .before .before .before .before .before .before .before .before .before .before .before .before .args .pixels)) (now (c .before .before .before .before .before .before .before .before .before .before .before .before .before .before .before .before .before .before .before .before .args .masks)) in
-    let y = lentOf (c .before .before .before .before .before .before .before .before .before .before .before .loop .session) (c .before .before .before .before .before .before .before .before .before .before .before .loop .pixels) (c .before .before .before .before .before .before .before .before .before .before .before .loop .masks) in
-    (omega arith, omega arith, omega arith, omega arith, length-set (c .before .before .before .before .before .before .before .before .before .before .before .loop .numbers) (c .before .before .before .before .before .before .before .before .before .before .before .loop .i) (c .before .before .before .before .before .before .play-one .result) ∙ c .before .before .before .before .before .before .before .before .before .before .before .loop .inv .4, turn-bytes (now (c .before .before .before .before .before .before .before .before .before .before .before .before .before .before .before .before .before .before .before .before .args .room)) x y (now (c .before .before .before .before .before .before .before .before .before .before .before .before .before .before .before .before .before .before .before .before .args .calls)) (c .before .before .before .before .before .before .before .before .before .before .before .loop .i) (c .before .before .before .before .before .before .before .before .before .before .before .loop .inv .5) (lentOf (c .before .before .before .before .before .before .play-one .last .1 .0) (c .before .before .before .before .before .before .play-one .last .1 .1 .0) (c .before .before .before .before .before .before .play-one .last .1 .1 .1 .0)) (c .before .before .before .before .before .before .play-one .ensures .1), turn-numbers (now (c .before .before .before .before .before .before .before .before .before .before .before .before .before .before .before .before .before .before .before .before .args .room)) x y (now (c .before .before .before .before .before .before .before .before .before .before .before .before .before .before .before .before .before .before .before .before .args .calls)) (c .before .before .before .before .before .before .before .before .before .before .before .loop .i) (c .before .before .before .before .before .before .before .before .before .before .before .loop .inv .5) _ _ _ (c .before .before .before .before .before .before .play-one .ensures .0) (c .before .before .before .before .before .before .before .before .before .before .before .loop .inv .6))
+    let x = lent (now (c .before .before .before .before .before .before .before .before .before .before .before .before .before .before .before .before .before .before .before .before .args .session)) (now (c .before .before .before .before .before .before .before .before .before .before .before .before .before .before .before .before .before .before .before .before .args .pixels)) (now (c .before .before .before .before .before .before .before .before .before .before .before .before .before .before .before .before .before .before .before .before .args .masks)) in
+    let y = lent (c .before .before .before .before .before .before .before .before .before .before .before .loop .session) (c .before .before .before .before .before .before .before .before .before .before .before .loop .pixels) (c .before .before .before .before .before .before .before .before .before .before .before .loop .masks) in
+    (omega arith, omega arith, omega arith, omega arith, length-set (c .before .before .before .before .before .before .before .before .before .before .before .loop .numbers) (c .before .before .before .before .before .before .before .before .before .before .before .loop .i) (c .before .before .before .before .before .before .play-one .result) ∙ c .before .before .before .before .before .before .before .before .before .before .before .loop .inv .4, turn-bytes (now (c .before .before .before .before .before .before .before .before .before .before .before .before .before .before .before .before .before .before .before .before .args .room)) x y (now (c .before .before .before .before .before .before .before .before .before .before .before .before .before .before .before .before .before .before .before .before .args .calls)) (c .before .before .before .before .before .before .before .before .before .before .before .loop .i) (c .before .before .before .before .before .before .before .before .before .before .before .loop .inv .5) (lent (c .before .before .before .before .before .before .play-one .last .1 .0) (c .before .before .before .before .before .before .play-one .last .1 .1 .0) (c .before .before .before .before .before .before .play-one .last .1 .1 .1 .0)) (c .before .before .before .before .before .before .play-one .ensures .1), turn-numbers (now (c .before .before .before .before .before .before .before .before .before .before .before .before .before .before .before .before .before .before .before .before .args .room)) x y (now (c .before .before .before .before .before .before .before .before .before .before .before .before .before .before .before .before .before .before .before .before .args .calls)) (c .before .before .before .before .before .before .before .before .before .before .before .loop .i) (c .before .before .before .before .before .before .before .before .before .before .before .loop .inv .5) _ _ _ (c .before .before .before .before .before .before .play-one .ensures .0) (c .before .before .before .before .before .before .before .before .before .before .before .loop .inv .6))
 
 same-length : tie.Need-same-length Inv-loop μ-loop
 same-length c = omega (arith, c .before .loop .inv .1)

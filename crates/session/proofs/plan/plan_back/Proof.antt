@@ -1,8 +1,9 @@
 -- `session::plan::plan_back` meets its contract. Assumes nothing.
-use Rattle.session.proofs.PlanLaws.{back-wrong, back-none, back-yes, back-small}
+use Rattle.session.proofs.PlanLaws.{plan-wrong, back-none, back-yes}
 use Rattle.stored.proofs.BytesLaws.{length-down}
 use Prim.Native.Nat.{ℕ, _-_}
-use Rattle.stored.specs.Bytes.{stepAt, down}
+use Rattle.scene.specs.declared.Call.the-variants.{TakeBack}
+use Rattle.stored.specs.Bytes.{stepAt}
 use Rattle.replay.specs.Tables.{roomOfTables}
 use mathlib.Core.Path.{_≡_, sym, _∙_}
 use native.Mathlib.Omega.{arith}
@@ -15,8 +16,11 @@ valid-shown-requires c κs = search needs
 
 returns : tie.Need-returns
 returns c =
-    let A = c .before .before .before .before .before .before .args in
-    (back-wrong (roomOfTables (A .objects .now) (A .verdicts .now) (A .size)) (A .session .now) (c .before .before .valid-shown .result) (c .before .before .valid-shown .ensures .0) (c .if1 .taken), c .before .before .valid-shown .ensures .1, λ q. absurd (c .if1 .taken q))
+    let listed = c .before .before in
+    let A = listed .before .before .before .before .args in
+    let T = roomOfTables (A .objects .now) (A .verdicts .now) (A .size) in
+    let r = listed .valid-shown in
+    (plan-wrong T (A .session .now) (r .result) (r .ensures .plan) TakeBack (c .if1 .taken), (r .ensures .few, λ q. absurd (c .if1 .taken q)))
 
 shared-slice-read-count : tie.Need-shared-slice-read-count
 shared-slice-read-count c = search needs
@@ -29,8 +33,16 @@ refused-requires c κs = search needs
 
 returns-2 : tie.Need-returns-2
 returns-2 c =
-    let A = c .before .before .before .before .before .before .before .before .before .before .args in
-    (back-none (roomOfTables (A .objects .now) (A .verdicts .now) (A .size)) (A .session .now) (c .before .before .before .before .before .before .valid-shown .result) (c .before .before .before .before .before .before .valid-shown .ensures .0) (c .before .before .before .before .if1 .left) (c .refused .result) (c .before .before .count .result) (c .before .before .count .ensures .0) (c .before .if2 .taken) (c .refused .ensures .0), omega (arith, c .refused .ensures .1, c .before .before .before .before .before .before .valid-shown .ensures .1), λ q. absurd (thirteen (sym (c .refused .ensures .0) ∙ q)))
+    let n = c .before .before .count in
+    let right = c .before .before .before .before in
+    let listed = right .before .before in
+    let A = listed .before .before .before .before .args in
+    let T = roomOfTables (A .objects .now) (A .verdicts .now) (A .size) in
+    let r = listed .valid-shown in (
+      back-none T (A .session .now) (r .result) (r .ensures .plan) (right .if1 .left) (c .refused .result) (n .result) (n .ensures .0)
+          (c .before .if2 .taken) (c .refused .ensures .0),
+      (omega (arith, c .refused .ensures .1, r .ensures .few), λ q. absurd (thirteen (sym (c .refused .ensures .0) ∙ q))),
+    )
   where
     thirteen : _≡_ {A = ℕ} 13 0 → ⊥
     thirteen q = omega arith
@@ -40,17 +52,28 @@ sub-replayed c = search needs
 
 replayed-requires : tie.Need-replayed-requires
 replayed-requires c κs =
-    let p = c .before .before .before .before .before .before .before .before .before .pre in
-    let h = c .before .before .before .before .before .valid-shown .ensures .2 (c .before .before .before .if1 .left) in
+    let right = c .before .before .before in
+    let listed = right .before .before in
+    let p = listed .before .before .before .before .pre in
+    let h = listed .valid-shown .ensures .counted (right .if1 .left) in
     omega (arith, c .before .count .ensures .0)
 
 returns-3 : tie.Need-returns-3
 returns-3 c =
-    let A = c .before .before .before .before .before .before .before .before .before .before .args in
-    let h = c .before .before .before .before .before .before .valid-shown .ensures .2 (c .before .before .before .before .if1 .left) in
+    let n = c .before .before .count in
+    let right = c .before .before .before .before in
+    let listed = right .before .before in
+    let A = listed .before .before .before .before .args in
+    let T = roomOfTables (A .objects .now) (A .verdicts .now) (A .size) in
+    let r = listed .valid-shown in
+    let h = r .ensures .counted (right .if1 .left) in
     let few = c .replayed .ensures .few in
-    let ld = length-down (stepAt (A .session .now)) (c .before .before .count .result - 1) in
-    (back-yes (roomOfTables (A .objects .now) (A .verdicts .now) (A .size)) (A .session .now) (c .before .before .before .before .before .before .valid-shown .result) (c .before .before .before .before .before .before .valid-shown .ensures .0) (c .before .before .before .before .if1 .left) (c .replayed .result) (c .before .before .count .result) (c .before .before .count .ensures .0) (c .before .if2 .left) (c .replayed .ensures), omega (arith, c .before .before .count .ensures .0), λ q. (omega (arith, c .before .if2 .left, c .before .before .count .ensures .0), back-small (A .objects .now) (A .verdicts .now) (A .size) (c .before .before .before .before .before .before .before .before .before .before .pre .3) (down (stepAt (A .session .now)) (c .before .before .count .result - 1)) (c .replayed .result) (c .replayed .ensures) q, omega (arith, c .before .before .count .ensures .0), omega (arith, c .before .if2 .left, c .before .before .count .ensures .0)))
+    let all = length-down (stepAt (A .session .now)) (n .result - 1) in
+    let none = c .before .if2 .left in (
+      back-yes T (A .session .now) (r .result) (r .ensures .plan) (right .if1 .left) (c .replayed .result) (n .result) (n .ensures .0) none
+          (c .replayed .ensures),
+      (omega (arith, n .ensures .0), λ q. (omega (arith, n .ensures .0), omega (arith, none, n .ensures .0))),
+    )
 
 pub plan-back-spec : {M : Type 1} → statement M
 plan-back-spec =

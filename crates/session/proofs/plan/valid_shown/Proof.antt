@@ -23,33 +23,65 @@ refused-requires c κs = search needs
 
 returns : tie.Need-returns
 returns c =
+    let s = c .before .before .before .replayed in
+    let few = c .before .before .before .before .if1 in
+    let n = c .before .before .before .before .before .count in
     let A = c .before .before .before .before .before .before .before .before .before .before .args in
-    let few = c .before .before .before .replayed .ensures .few in
-    let ld = length-down (stepAt (A .session .now)) (c .before .before .before .before .before .count .result) in
-    (valid-no (roomOfTables (A .objects .now) (A .verdicts .now) (A .size)) (A .session .now) (c .before .before .before .replayed .result) (c .refused .result) (c .before .before .before .before .before .count .result) (c .before .before .before .before .before .count .ensures .0) (c .before .before .before .replayed .ensures) (c .before .if2 .taken) (c .refused .ensures .0), omega (arith, c .refused .ensures .1, c .before .before .before .before .if1 .taken), λ q. omega (arith, c .refused .ensures .0))
+    let T = roomOfTables (A .objects .now) (A .verdicts .now) (A .size) in
+    let short = s .ensures .few in
+    let all = length-down (stepAt (A .session .now)) (n .result) in
+    record {
+      plan =
+          valid-no T (A .session .now) (s .result) (c .refused .result) (n .result) (n .ensures .0) (s .ensures) (c .before .if2 .taken)
+          (c .refused .ensures .0);
+      few = omega (arith, c .refused .ensures .1, few .taken);
+      counted = λ q. omega (arith, c .refused .ensures .0);
+    }
 
 agrees-requires : tie.Need-agrees-requires
 agrees-requires c κs =
-    let few = c .before .before .replayed .ensures .few in
-    let ld = length-down (stepAt (c .before .before .before .before .before .before .before .before .before .args .session .now)) (c .before .before .before .before .count .result) in
-    omega (arith, c .before .before .before .if1 .taken)
+    let few = c .before .before .before .if1 in
+    let A = c .before .before .before .before .before .before .before .before .before .args in
+    let short = c .before .before .replayed .ensures .few in
+    let all = length-down (stepAt (A .session .now)) (c .before .before .before .before .count .result) in
+    omega (arith, few .taken)
 
 returns-2 : tie.Need-returns-2
 returns-2 c =
+    let s = c .before .before .before .before .replayed in
+    let few = c .before .before .before .before .before .if1 in
+    let n = c .before .before .before .before .before .before .count in
     let A = c .before .before .before .before .before .before .before .before .before .before .before .args in
-    let few = c .before .before .before .before .replayed .ensures .few in
-    let ld = length-down (stepAt (A .session .now)) (c .before .before .before .before .before .before .count .result) in
-    (valid-yes (roomOfTables (A .objects .now) (A .verdicts .now) (A .size)) (A .session .now) (c .before .before .before .before .replayed .result) (c .before .before .before .before .replayed .result) (c .before .before .before .before .before .before .count .result) (c .before .before .before .before .before .before .count .ensures .0) (c .before .before .before .before .replayed .ensures) (c .before .before .if2 .left) (sym (c .if3 .taken) ∙ c .before .agrees .ensures), omega (arith, c .before .before .before .before .before .if1 .taken), λ q. omega (arith, c .before .before .before .before .before .if1 .taken, c .before .before .before .before .before .before .count .ensures .0))
+    let T = roomOfTables (A .objects .now) (A .verdicts .now) (A .size) in
+    let short = s .ensures .few in
+    let all = length-down (stepAt (A .session .now)) (n .result) in
+    record {
+      plan =
+          valid-yes T (A .session .now) (s .result) (s .result) (n .result) (n .ensures .0) (s .ensures) (c .before .before .if2 .left)
+          (sym (c .if3 .taken) ∙ c .before .agrees .ensures);
+      few = omega (arith, few .taken);
+      counted = λ q. omega (arith, few .taken, n .ensures .0);
+    }
 
 refused-requires-2 : tie.Need-refused-requires-2
 refused-requires-2 c κs = search needs
 
 returns-3 : tie.Need-returns-3
 returns-3 c =
+    let s = c .before .before .before .before .before .replayed in
+    let few = c .before .before .before .before .before .before .if1 in
+    let n = c .before .before .before .before .before .before .before .count in
     let A = c .before .before .before .before .before .before .before .before .before .before .before .before .args in
-    let few = c .before .before .before .before .before .replayed .ensures .few in
-    let ld = length-down (stepAt (A .session .now)) (c .before .before .before .before .before .before .before .count .result) in
-    (valid-off (roomOfTables (A .objects .now) (A .verdicts .now) (A .size)) (A .session .now) (c .before .before .before .before .before .replayed .result) (c .refused2 .result) (c .before .before .before .before .before .before .before .count .result) (c .before .before .before .before .before .before .before .count .ensures .0) (c .before .before .before .before .before .replayed .ensures) (c .before .before .before .if2 .left) (sym (c .before .if3 .left) ∙ c .before .before .agrees .ensures) (c .refused2 .ensures .0), omega (arith, c .refused2 .ensures .1, c .before .before .before .before .before .before .if1 .taken), λ q. omega (arith, c .refused2 .ensures .0))
+    let T = roomOfTables (A .objects .now) (A .verdicts .now) (A .size) in
+    let short = s .ensures .few in
+    let all = length-down (stepAt (A .session .now)) (n .result) in
+    record {
+      plan =
+          valid-off T (A .session .now) (s .result) (c .refused2 .result) (n .result) (n .ensures .0) (s .ensures)
+          (c .before .before .before .if2 .left) (sym (c .before .if3 .left) ∙ c .before .before .agrees .ensures) (c .refused2 .ensures .0);
+      few = omega (arith, c .refused2 .ensures .1, few .taken);
+      counted = λ q. omega (arith, c .refused2 .ensures .0);
+    }
 
 empty-requires : tie.Need-empty-requires
 empty-requires c κs = search needs
@@ -59,8 +91,16 @@ refused-requires-3 c κs = search needs
 
 returns-4 : tie.Need-returns-4
 returns-4 c =
+    let n = c .before .before .before .count in
     let A = c .before .before .before .before .before .before .before .before .args in
-    (valid-long (roomOfTables (A .objects .now) (A .verdicts .now) (A .size)) (A .session .now) (c .before .empty .result) (c .refused3 .result) (c .before .before .before .count .result) (c .before .before .before .count .ensures .0) (c .before .before .if1 .left) (c .refused3 .ensures .0), omega (arith, c .refused3 .ensures .1, c .before .empty .ensures .1), λ q. omega (arith, c .refused3 .ensures .0))
+    let T = roomOfTables (A .objects .now) (A .verdicts .now) (A .size) in
+    record {
+      plan =
+          valid-long T (A .session .now) (c .before .empty .result) (c .refused3 .result) (n .result) (n .ensures .0) (c .before .before .if1 .left)
+          (c .refused3 .ensures .0);
+      few = omega (arith, c .refused3 .ensures .1, c .before .empty .ensures .1);
+      counted = λ q. omega (arith, c .refused3 .ensures .0);
+    }
 
 pub valid-shown-spec : {M : Type 1} → statement M
 valid-shown-spec =

@@ -7,14 +7,44 @@ use Rattle.verdict.proofs.judge.judge.Tie as tie
 judge-steps-requires : tie.Need-judge-steps-requires
 judge-steps-requires c κs = search needs
 
+enum-known-call : tie.Need-enum-known-call
+enum-known-call c = search needs
+
 judge-step-requires : tie.Need-judge-step-requires
 judge-step-requires c κs = search needs
+
+enum-told : tie.Need-enum-told
+enum-told c = search needs
 
 same-length : tie.Need-same-length
 same-length c = search needs
 
 returns : tie.Need-returns
-returns c = judged-agree _ (c .before .before .before .before .before .before .before .before .before .before .before .before .args .r) _ (c .before .before .before .before .before .before .before .before .before .before .before .before .pre .0 .1) _ _ (c .before .before .before .before .before .before .before .before .before .before .before .before .pre .0 .0) (c .before .before .judge-step .ensures _ (c .before .before .before .before .before .before .judge-steps .ensures))
+returns c =
+    let made = c .before .before .before .before .before in
+    let judged = made .before .before .before .before in
+    let start = judged .before .before .before .before .before .before in
+    rw (made .call .given .1)
+    (judged-agree _ (start .args .r) _ (start .pre .0 .1) _ _ (start .pre .0 .0) (c .before .before .judge-step .ensures _ (judged .judge-steps .ensures)))
+
+same-length-2 : tie.Need-same-length-2
+same-length-2 c = search needs
+
+returns-2 : tie.Need-returns-2
+returns-2 c =
+    let judged = c .before .before .before .before in
+    let start = judged .before .before .before .before .before .before in
+    rw (c .enum-told .given .1) (judged-agree _ (start .args .r) _ (start .pre .0 .1) _ _ (start .pre .0 .0) (judged .judge-steps .ensures))
 
 pub judge-spec : {M : Type 1} → statement M
-judge-spec = tie.close (tie.spec judge-steps-requires judge-step-requires same-length returns)
+judge-spec =
+    tie.close
+    (tie.spec
+    judge-steps-requires
+    enum-known-call
+    judge-step-requires
+    enum-told
+    same-length
+    returns
+    same-length-2
+    returns-2)

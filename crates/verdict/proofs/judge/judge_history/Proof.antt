@@ -11,7 +11,9 @@ same-length : tie.Need-same-length
 same-length c = search needs
 
 returns : tie.Need-returns
-returns c = judged-agree _ (c .before .before .before .before .before .before .before .before .args .r) _ (c .before .before .before .before .before .before .before .before .pre .0 .1) _ _ (c .before .before .before .before .before .before .before .before .pre .0 .0) (c .before .before .judge-steps .ensures)
+returns c =
+    let start = c .before .before .before .before .before .before .before .before in
+    judged-agree _ (start .args .r) _ (start .pre .0 .1) _ _ (start .pre .0 .0) (c .before .before .judge-steps .ensures)
 
 pub judge-history-spec : {M : Type 1} → statement M
 judge-history-spec = tie.close (tie.spec judge-steps-requires same-length returns)
