@@ -28,37 +28,39 @@ extern "C" {
 
 /* ---- Answers ---- */
 
-/** What a call answers. */
-enum kg_refusal {
-    KG_ACCEPTED = 0,              /**< the call did its work */
-    KG_NOT_A_ROOM = 1,            /**< not one ROOM block filling the slice, or a block of it is wrong */
-    KG_BLOCK_MISSING = 2,         /**< a needed block is missing or too short */
-    KG_OUT_OF_SIZE = 3,           /**< width, height, planes, object count or a picture's size */
-    KG_BUFFER_SHORT = 4,          /**< a lent buffer is shorter than the call needs */
-    KG_TABLE_WRONG = 5,           /**< a strip table doesn't fit its block, or an offset is wrong */
-    KG_CODE_UNKNOWN = 6,          /**< unknown strip code */
-    KG_BYTES_RUN_OUT = 7,         /**< strip bytes run out */
-    KG_PAST_THE_STRIP = 8,        /**< an operation passes the end of the strip */
-    KG_OTHER_SESSION = 9,         /**< the session isn't one that this room gives */
-    KG_HISTORY_FULL = 10,         /**< the history holds 64 steps */
-    KG_NO_SUCH_OBJECT = 11,       /**< no such object, image state or shown entry */
-    KG_PLACE_NOT_ALLOWED = 12,    /**< an image's place or size doesn't fit strips and room */
-    KG_NOTHING_TO_TAKE_BACK = 13, /**< the history holds no step */
-    KG_POINT_OUTSIDE = 14,        /**< the point is outside the room */
-    KG_ANIMATION_WRONG = 15       /**< an animation number, record, window or limb state */
-};
+/** What a call answers: the name of enum kg_refusal, its number, and a short text for it. A new number is one line, the lowest first. */
+#define KG_NUMBERS(X) \
+    X(KG_ACCEPTED, 0, "accepted") \
+    X(KG_NOT_A_ROOM, 1, "not one ROOM block filling the slice, or a block of it is wrong") \
+    X(KG_BLOCK_MISSING, 2, "a needed block is missing or too short") \
+    X(KG_OUT_OF_SIZE, 3, "width, height, planes, object count or a picture's size is out of range") \
+    X(KG_BUFFER_SHORT, 4, "a lent buffer is too short") \
+    X(KG_TABLE_WRONG, 5, "a strip table doesn't fit its block, or an offset is wrong") \
+    X(KG_CODE_UNKNOWN, 6, "unknown strip code") \
+    X(KG_BYTES_RUN_OUT, 7, "strip bytes run out") \
+    X(KG_PAST_THE_STRIP, 8, "an operation passes the end of the strip") \
+    X(KG_OTHER_SESSION, 9, "the session isn't one that this room gives") \
+    X(KG_HISTORY_FULL, 10, "the history holds 64 steps") \
+    X(KG_NO_SUCH_OBJECT, 11, "no such object, image state or shown entry") \
+    X(KG_PLACE_NOT_ALLOWED, 12, "the place isn't allowed") \
+    X(KG_NOTHING_TO_TAKE_BACK, 13, "nothing to take back") \
+    X(KG_POINT_OUTSIDE, 14, "the point is outside the room") \
+    X(KG_ANIMATION_WRONG, 15, "an animation number, record, window or limb state is wrong")
 
-/** A short text for a number that a call answers. */
+/** @cond */
+#define KG_NUMBER_NAME(name, number, text) name = (number),
+#define KG_NUMBER_TEXT(name, number, text) case name: return text;
+
+enum kg_refusal { KG_NUMBERS(KG_NUMBER_NAME) };
+/** @endcond */
+
+/** The text of a number. */
 static inline const char *kg_refusal_text(uint32_t number)
 {
-    static const char *const texts[] = {
-        "accepted", "not one ROOM block filling the slice, or a block of it is wrong", "a needed block is missing or too short",
-        "width, height, planes, object count or a picture's size is out of range", "a lent buffer is too short",
-        "a strip table doesn't fit its block, or an offset is wrong", "unknown strip code", "strip bytes run out",
-        "an operation passes the end of the strip", "the session isn't one that this room gives", "the history holds 64 steps",
-        "no such object, image state or shown entry", "the place isn't allowed", "nothing to take back", "the point is outside the room",
-        "an animation number, record, window or limb state is wrong" };
-    return number < sizeof texts / sizeof texts[0] ? texts[number] : "unknown number";
+    switch (number) {
+        KG_NUMBERS(KG_NUMBER_TEXT)
+        default: return "unknown number";
+    }
 }
 
 /** The number of a uint64_t answer (not of kg_name's). */

@@ -16,18 +16,38 @@ static int version_told(void)
     return strcmp(text, KG_VERSION_TEXT) == 0 && KG_VERSION == 10000 * KG_VERSION_MAJOR + 100 * KG_VERSION_MINOR + KG_VERSION_PATCH;
 }
 
-int main(void)
+#define ONE(name, number, text) name,
+static const uint32_t numbers[] = { KG_NUMBERS(ONE) };
+enum { COUNT = sizeof numbers / sizeof numbers[0] };
+
+static int known(uint32_t number) { return strcmp(kg_refusal_text(number), "unknown number") != 0; }
+
+/* The numbers rise, so that each stands once, and no two have the same text. */
+static int texts_told(void)
 {
     uint32_t i, k;
-    if (!version_told()) return 1;
-    for (i = KG_ACCEPTED; i <= KG_ANIMATION_WRONG; i++) {
-        if (strlen(kg_refusal_text(i)) == 0) return 1;
-        for (k = KG_ACCEPTED; k <= KG_ANIMATION_WRONG + 1u; k++) {
-            if (i != k && strcmp(kg_refusal_text(i), kg_refusal_text(k)) == 0) return 1;
+    for (i = 0; i < COUNT; i++) {
+        if (strlen(kg_refusal_text(numbers[i])) == 0 || !known(numbers[i])) return 0;
+        if (i > 0 && numbers[i] <= numbers[i - 1]) return 0;
+        for (k = 0; k < i; k++) {
+            if (strcmp(kg_refusal_text(numbers[i]), kg_refusal_text(numbers[k])) == 0) return 0;
         }
     }
-    if (strcmp(kg_refusal_text(KG_ANIMATION_WRONG + 1u), "unknown number") != 0) return 1;
-    if (strcmp(kg_refusal_text(0xFFFFFFFFu), "unknown number") != 0) return 1;
-    printf("texts: %d texts\n", KG_ANIMATION_WRONG + 1);
+    return 1;
+}
+
+/* How many of the numbers from 0 to 1,000 have a text. */
+static uint32_t known_below(void)
+{
+    uint32_t i, count = 0;
+    for (i = 0; i <= 1000; i++) count += (uint32_t)known(i);
+    return count;
+}
+
+int main(void)
+{
+    if (!version_told() || !texts_told()) return 1;
+    if (known_below() != COUNT || known(0xFFFFFFFFu)) return 1;
+    printf("texts: %d texts\n", (int)COUNT);
     return 0;
 }

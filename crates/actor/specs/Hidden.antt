@@ -3,7 +3,7 @@ use mathlib.Core.Bool.{Bool, true, false, _&&_, cond}
 use mathlib.Core.List.{List}
 use Prim.Native.Nat.{ℕ, _+_, _-_, _*_, _/_, _%_, _^_}
 use lib.Dec.{leb, ltb, eqb}
-use lib.ListN.{getD}
+use lib.ListN.{length, getD}
 use Rattle.actor.specs.Sizes.{unless, sizesFit, maskBytes}
 use Rattle.actor.specs.declared.Answer.{Answer}
 use Rattle.actor.specs.declared.Answer.the-variants.{Refused, Hidden}
@@ -37,3 +37,7 @@ hides (Hidden is) = is
 -- the answer of number n where the pixel is hidden or not
 unfoldable pub answered : ℕ → Bool → Answer
 answered n is = cond (eqb n 0) (Hidden is) (Refused n)
+
+-- the answer of the call
+abbrev pub hiddenOf : List ℕ → (w h n clip x y : ℕ) → Answer
+hiddenOf masks w h n clip x y = answered (hiddenNumber (length masks) w h n x y) (hiddenAt masks w h n clip x y)

@@ -7,7 +7,7 @@ mod sizes;
 
 ghost use mathlib.Core.Path.{_≡_};
 ghost use lib.ListN.{length};
-ghost use Rattle.actor.specs.Hidden.{hiddenAt, hiddenNumber, answered, number};
+ghost use Rattle.actor.specs.Hidden.{hiddenNumber, hiddenOf, number};
 ghost use Rattle.actor.specs.Stamp.{stampNumber, stampFrame};
 
 // The answer to "is this pixel hidden": document 01's number, or whether it is. The bit is handed on as it is, since a branch on it
@@ -22,7 +22,7 @@ const CLEAR: u8 = 255;
 
 // Whether an actor's pixel at (x, y) is hidden at a clip level, by the masks of n planes of a room of w by h.
 pub fn hidden(masks: &[u8], w: u32, h: u32, n: u32, clip: u32, x: u32, y: u32) -> Answer
-    ensures { λ r. ⌜ r ≡ answered (hiddenNumber (length (now (masks .entry))) w h n x y) (hiddenAt (now (masks .entry)) w h n clip x y) ⌝ }
+    ensures { λ r. ⌜ r ≡ hiddenOf (now (masks .entry)) w h n clip x y ⌝ }
     ensures { λ r. ⌜ number r ≡ hiddenNumber (length (now (masks .entry))) w h n x y ⌝ }
 {
     let w = w as usize;

@@ -54,7 +54,9 @@ pub(crate) fn stamp_box(
     requires { ⌜ Inside (length (now frame)) w h (across .start) (down .start) (across .count) (down .count) ⌝ }
     requires { ⌜ Inside (length (now picture)) width height (across .skip) (down .skip) (across .count) (down .count) ⌝ }
     requires { ⌜ Planes (length (now masks)) w h n ⌝ }
-    ensures { λ _. ⌜ now (frame .exit) ≡ upd (boxed w (across .start) (down .start) (across .count) (down .count) (stampBox (now (masks .entry)) (now (picture .entry)) w h n width clear clip across down)) (now (frame .entry)) ⌝ }
+    ensures { λ _. ⌜ now (frame .exit)
+        ≡ upd (boxed w (across .start) (down .start) (across .count) (down .count)
+        (stampBox (now (masks .entry)) (now (picture .entry)) w h n width clear clip across down)) (now (frame .entry)) ⌝ }
 {
     let mut r = 0;
     while r < down.count {

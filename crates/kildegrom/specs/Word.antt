@@ -34,6 +34,10 @@ drawnWord drawn.Nothing = 0
 drawnWord (drawn.Picture p) = valued (256 + p)
 
 -- a writer: the value is the block's length
+abbrev pub lengthOf : Wrote → ℕ
+lengthOf (wrote.Block size) = size
+lengthOf (wrote.Refused n) = 0
+
 abbrev pub wroteWord : Wrote → ℕ
 wroteWord (wrote.Block size) = valued size
 wroteWord (wrote.Refused n) = n

@@ -8,7 +8,7 @@ use Rattle.scene.specs.declared.Call.{Call}
 use Rattle.scene.specs.declared.Call.the-variants.{Make, TakeBack}
 use Rattle.scene.specs.declared.Place.the-variants.{Strip}
 use Rattle.scene.specs.declared.Step.the-variants.{Draw}
-use Rattle.runner.specs.Coded.{callOf, callFrom}
+use Rattle.runner.specs.Coded.{callOf, callWith, callFrom}
 
 pub strip-call : (k o s a b : ℕ) → (k ≡ 0 → ⊥) → (k ≡ 1 → ⊥) → k ≤ 2 → Make (Draw o s (Strip a b)) ≡ callOf k o s a b
 strip-call zero o s a b n m le = absurd (n refl)
@@ -23,6 +23,5 @@ back-call (suc (suc zero)) o s a b lt = absurd (omega arith)
 back-call (suc (suc (suc k))) o s a b lt = refl
 
 -- a call whose kind was read first
-pub known-kind : (l : List ℕ) (at k : ℕ) (c : Call) → k ≡ le32 l at
-    → c ≡ callOf k (le32 l (at + 4)) (le32 l (at + 8)) (le32 l (at + 12)) (le32 l (at + 16)) → c ≡ callFrom l at
-known-kind l at k c e h = h ∙ ap (λ (q : ℕ). callOf q (le32 l (at + 4)) (le32 l (at + 8)) (le32 l (at + 12)) (le32 l (at + 16))) e
+pub known-kind : (l : List ℕ) (at k : ℕ) (c : Call) → k ≡ le32 l at → c ≡ callWith l at k → c ≡ callFrom l at
+known-kind l at k c e h = h ∙ ap (callWith l at) e

@@ -15,9 +15,12 @@ callOf (suc zero) o s a b = Make (Draw o s Last)
 callOf (suc (suc zero)) o s a b = Make (Draw o s (Strip a b))
 callOf (suc (suc (suc k))) o s a b = TakeBack
 
--- the call in the 20 bytes from `at` on
+-- the call in the 20 bytes from `at` on, its kind given, and with the kind that stands there
+abbrev pub callWith : List ℕ → (at kind : ℕ) → Call
+callWith l at kind = callOf kind (le32 l (at + 4)) (le32 l (at + 8)) (le32 l (at + 12)) (le32 l (at + 16))
+
 abbrev pub callFrom : List ℕ → (at : ℕ) → Call
-callFrom l at = callOf (le32 l at) (le32 l (at + 4)) (le32 l (at + 8)) (le32 l (at + 12)) (le32 l (at + 16))
+callFrom l at = callWith l at (le32 l at)
 
 -- call i, counted from 0
 abbrev pub callAt : List ℕ → (i : ℕ) → Call

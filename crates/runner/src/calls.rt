@@ -5,7 +5,7 @@ ghost use lib.ListN.{length};
 ghost use Rattle.number.specs.Number.{le32};
 ghost use Rattle.scene.specs.declared.Call.the-variants.{Make};
 ghost use Rattle.play.specs.Bytes.{lent, afterCall, numberOf};
-ghost use Rattle.runner.specs.Coded.{callOf, callFrom, callAt, callsOf, callCount};
+ghost use Rattle.runner.specs.Coded.{callWith, callFrom, callAt, callsOf, callCount};
 ghost use Rattle.runner.specs.Run.{played, playedNumber, putFirst};
 use number::read_le32;
 use play::calls::call;
@@ -24,7 +24,7 @@ fn field(calls: &[u8], at: usize) -> u32
 // The step in the 20 bytes from `at` on, whose kind is known to be 0, 1 or 2.
 fn step_from(calls: &[u8], at: usize, kind: u32) -> Step
     requires { ⌜ (at + 20 ≤ length (now calls)) × (kind ≤ 2) ⌝ }
-    ensures { λ r. ⌜ Make r ≡ callOf kind (le32 (now (calls .entry)) (at + 4)) (le32 (now (calls .entry)) (at + 8)) (le32 (now (calls .entry)) (at + 12)) (le32 (now (calls .entry)) (at + 16)) ⌝ }
+    ensures { λ r. ⌜ Make r ≡ callWith (now (calls .entry)) at kind ⌝ }
 {
     let object = field(calls, at + 4);
     match kind {
@@ -62,8 +62,10 @@ fn play_one(
     i: usize,
 ) -> u8
     requires { ⌜ 20 * i + 20 ≤ length (now calls) ⌝ }
-    ensures { λ n. ⌜ n ≡ numberOf (now (room .entry)) (lent (now (session .entry)) (now (pixels .entry)) (now (masks .entry))) (callAt (now (calls .entry)) i) ⌝ }
-    ensures { λ _. ⌜ lent (now (session .exit)) (now (pixels .exit)) (now (masks .exit)) ≡ afterCall (now (room .entry)) (lent (now (session .entry)) (now (pixels .entry)) (now (masks .entry))) (callAt (now (calls .entry)) i) ⌝ }
+    ensures { λ n. ⌜ n
+        ≡ numberOf (now (room .entry)) (lent (now (session .entry)) (now (pixels .entry)) (now (masks .entry))) (callAt (now (calls .entry)) i) ⌝ }
+    ensures { λ _. ⌜ lent (now (session .exit)) (now (pixels .exit)) (now (masks .exit))
+        ≡ afterCall (now (room .entry)) (lent (now (session .entry)) (now (pixels .entry)) (now (masks .entry))) (callAt (now (calls .entry)) i) ⌝ }
 {
     let next = call_from(calls, 20 * i);
     call(room, session, pixels, masks, next) as u8
@@ -87,8 +89,12 @@ pub fn play_all(
     calls: &[u8],
     numbers: &mut [u8],
 )
-    ensures { λ _. ⌜ lent (now (session .exit)) (now (pixels .exit)) (now (masks .exit)) ≡ played (now (room .entry)) (lent (now (session .entry)) (now (pixels .entry)) (now (masks .entry))) (callsOf (now (calls .entry)) (callCount (now (calls .entry)) (now (numbers .entry)))) ⌝ }
-    ensures { λ _. ⌜ now (numbers .exit) ≡ putFirst (playedNumber (now (room .entry)) (lent (now (session .entry)) (now (pixels .entry)) (now (masks .entry))) (now (calls .entry))) (callCount (now (calls .entry)) (now (numbers .entry))) (now (numbers .entry)) ⌝ }
+    ensures { λ _. ⌜ lent (now (session .exit)) (now (pixels .exit)) (now (masks .exit))
+        ≡ played (now (room .entry)) (lent (now (session .entry)) (now (pixels .entry)) (now (masks .entry)))
+        (callsOf (now (calls .entry)) (callCount (now (calls .entry)) (now (numbers .entry)))) ⌝ }
+    ensures { λ _. ⌜ now (numbers .exit)
+        ≡ putFirst (playedNumber (now (room .entry)) (lent (now (session .entry)) (now (pixels .entry)) (now (masks .entry))) (now (calls .entry)))
+        (callCount (now (calls .entry)) (now (numbers .entry))) (now (numbers .entry)) ⌝ }
 {
     let n = call_count(calls, &numbers[..]);
     let mut i: usize = 0;

@@ -23,9 +23,16 @@ pub fn run(
     numbers: &mut [u8],
 ) -> u32
     ensures { λ n. ⌜ n ≡ numberOf (testOf (now (room .entry)) (lent (now (session .entry)) (now (pixels .entry)) (now (masks .entry)))) ⌝ }
-    ensures { λ _. ⌜ lent (now (session .exit)) (now (pixels .exit)) (now (masks .exit)) ≡ bytesRun (now (room .entry)) (lent (now (session .entry)) (now (pixels .entry)) (now (masks .entry))) (now (calls .entry)) (callCount (now (calls .entry)) (now (numbers .entry))) ⌝ }
-    ensures { λ _. ⌜ now (numbers .exit) ≡ numbersRun (now (room .entry)) (lent (now (session .entry)) (now (pixels .entry)) (now (masks .entry))) (now (calls .entry)) (callCount (now (calls .entry)) (now (numbers .entry))) (now (numbers .entry)) ⌝ }
-    ensures { λ _. ⌜ ((r : rooms.Room) → testOf (now (room .entry)) (lent (now (session .entry)) (now (pixels .entry)) (now (masks .entry))) ≡ Right r → Demand3Held (decoded (now (room .entry)) r) (lent (now (session .entry)) (now (pixels .entry)) (now (masks .entry))) (now (calls .entry)) (callCount (now (calls .entry)) (now (numbers .entry))) (now (numbers .exit)) (lent (now (session .exit)) (now (pixels .exit)) (now (masks .exit)))) ⌝ }
+    ensures { λ _. ⌜ lent (now (session .exit)) (now (pixels .exit)) (now (masks .exit))
+        ≡ bytesRun (now (room .entry)) (lent (now (session .entry)) (now (pixels .entry)) (now (masks .entry))) (now (calls .entry))
+        (callCount (now (calls .entry)) (now (numbers .entry))) ⌝ }
+    ensures { λ _. ⌜ now (numbers .exit)
+        ≡ numbersRun (now (room .entry)) (lent (now (session .entry)) (now (pixels .entry)) (now (masks .entry))) (now (calls .entry))
+        (callCount (now (calls .entry)) (now (numbers .entry))) (now (numbers .entry)) ⌝ }
+    ensures { λ _. ⌜ ((r : rooms.Room)
+        → testOf (now (room .entry)) (lent (now (session .entry)) (now (pixels .entry)) (now (masks .entry))) ≡ Right r
+        → Demand3Held (decoded (now (room .entry)) r) (lent (now (session .entry)) (now (pixels .entry)) (now (masks .entry))) (now (calls .entry))
+        (callCount (now (calls .entry)) (now (numbers .entry))) (now (numbers .exit)) (lent (now (session .exit)) (now (pixels .exit)) (now (masks .exit)))) ⌝ }
 {
     let refusal = load::load(room, session, pixels, masks);
     if refusal != 0 {

@@ -19,9 +19,6 @@ loop-holds : tie.Need-loop-holds Inv-loop μ-loop
 unfolding bytesSum sumsSum
 loop-holds c = (omega arith, refl, refl, omega arith, omega arith)
 
-shared-slice-read-low : tie.Need-shared-slice-read-low Inv-loop μ-loop
-shared-slice-read-low c = omega arith
-
 cast-low : tie.Need-cast-low Inv-loop μ-loop
 cast-low c = omega (arith, c .shared-slice-known .given (c .before .before .loop .i))
 
@@ -31,17 +28,14 @@ add-low c = omega (arith, c .shared-slice-known .given (c .before .before .loop 
 add-high : tie.Need-add-high Inv-loop μ-loop
 add-high c = omega (arith, c .before .before .loop .inv .4)
 
-add-i : tie.Need-add-i Inv-loop μ-loop
-add-i c = omega arith
-
-loop-less : tie.Need-loop-less Inv-loop μ-loop
-loop-less c = omega arith
-
 loop-again : tie.Need-loop-again Inv-loop μ-loop
 unfolding bytesSum sumsSum
 loop-again c =
-    let e = ap (λ (x : ℕ). (x + getD (now (c .before .before .before .args .bytes)) (c .before .before .loop .i) 0) % 65521) (c .before .before .loop .inv .1) in
-    let f : (c .before .before .loop .high + (c .before .before .loop .low + getD (now (c .before .before .before .args .bytes)) (c .before .before .loop .i) 0) % 65521) % 65521 ≡ sumsSum (now (c .before .before .before .args .bytes)) (c .before .before .loop .i + 1) = rw (add-one (c .before .before .loop .i)) (λ j. (c .before .before .loop .inv .2 j + e j) % 65521) in
+    let a = c .before .before .before .args in
+    let e = ap (λ (x : ℕ). (x + getD (now (a .bytes)) (c .before .before .loop .i) 0) % 65521) (c .before .before .loop .inv .1) in
+    let f : (c .before .before .loop .high + (c .before .before .loop .low + getD (now (a .bytes)) (c .before .before .loop .i) 0) % 65521) % 65521 ≡
+    sumsSum (now (a .bytes)) (c .before .before .loop .i + 1) = rw (add-one (c .before .before .loop .i))
+    (λ j. (c .before .before .loop .inv .2 j + e j) % 65521) in
     (omega arith, rw (add-one (c .before .before .loop .i)) e, f, omega arith, omega arith)
 
 mul-result : tie.Need-mul-result Inv-loop μ-loop
@@ -57,18 +51,6 @@ returns c =
 
 pub checksum-spec : {M : Type 1} → statement M
 checksum-spec =
-    tie.close
-    (tie.spec
-    Inv-loop
-    μ-loop
-    loop-holds
-    shared-slice-read-low
-    cast-low
-    add-low
-    add-high
-    add-i
-    loop-less
-    loop-again
-    mul-result
-    add-result
+    tie.close (tie.spec
+    Inv-loop μ-loop loop-holds (λ c. omega arith) cast-low add-low add-high (λ c. omega arith) (λ c. omega arith) loop-again mul-result add-result
     returns)

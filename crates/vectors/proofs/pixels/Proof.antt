@@ -1,56 +1,16 @@
+-- `vectors::pixels` meets its contract.
 use lib.ListN.{length-take}
 use native.Mathlib.Omega.{arith}
-use Prim.Native.Nat.{_-_}
 use mathlib.Core.Path.{sym}
 use borrow.Author.Needs.{needs}
 use Rattle.vectors.proofs.pixels.Statement.{statement}
 use Rattle.vectors.proofs.pixels.Tie as tie
 
-mul-n : tie.Need-mul-n
-mul-n c = search needs
-
-slice-aggregate-decode-strip : tie.Need-slice-aggregate-decode-strip
-slice-aggregate-decode-strip c = search needs
-
-decode-strip-requires : tie.Need-decode-strip-requires
-decode-strip-requires c κs = search needs
-
-enum-told : tie.Need-enum-told
-enum-told c = search needs
-
-array-share-prefix-out : tie.Need-array-share-prefix-out
-array-share-prefix-out c = search needs
-
 slice-aggregate-bytes : tie.Need-slice-aggregate-bytes
 slice-aggregate-bytes c = sym (simp length-take (omega (arith, c .before .before .before .before .decode-strip .kept .1 .1 .0)))
 
-bytes-requires : tie.Need-bytes-requires
-bytes-requires c κs = search needs
-
-enum-known-number : tie.Need-enum-known-number
-enum-known-number c = search needs
-
-refused-requires : tie.Need-refused-requires
-refused-requires c κs = search needs
-
-returns : tie.Need-returns
-returns c = search needs
-
-returns-2 : tie.Need-returns-2
-returns-2 c = search needs
-
 pub pixels-spec : {M : Type 1} → statement M
 pixels-spec =
-    tie.close
-    (tie.spec
-    mul-n
-    slice-aggregate-decode-strip
-    decode-strip-requires
-    enum-told
-    array-share-prefix-out
-    slice-aggregate-bytes
-    bytes-requires
-    enum-known-number
-    refused-requires
-    returns
-    returns-2)
+    tie.close (tie.spec
+    (λ c. search needs) (λ c. search needs) (λ c κs. search needs) (λ c. search needs) (λ c. search needs) slice-aggregate-bytes
+    (λ c κs. search needs) (λ c. search needs) (λ c κs. search needs) (λ c. search needs) (λ c. search needs))

@@ -5,15 +5,6 @@ use borrow.Author.Needs.{needs}
 use Rattle.actor.proofs.corner.span_of.Statement.{statement}
 use Rattle.actor.proofs.corner.span_of.Tie as tie
 
-ahead-of-requires : tie.Need-ahead-of-requires
-ahead-of-requires c κs = search needs
-
-behind-of-requires : tie.Need-behind-of-requires
-behind-of-requires c κs = search needs
-
-count-of-requires : tie.Need-count-of-requires
-count-of-requires c κs = search needs
-
 returns : tie.Need-returns
 returns c =
     let e = toZ-ofZ w32 (c .before .before .before .args .x) (c .before .before .before .fits .x) in
@@ -22,4 +13,4 @@ returns c =
     record { start = s; skip = k; count = rw (s, k) at (c .count-of .ensures) }
 
 pub span-of-spec : {M : Type 1} → statement M
-span-of-spec = tie.close (tie.spec ahead-of-requires behind-of-requires count-of-requires returns)
+span-of-spec = tie.close (tie.spec (λ c κs. search needs) (λ c κs. search needs) (λ c κs. search needs) returns)

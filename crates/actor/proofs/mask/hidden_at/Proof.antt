@@ -16,28 +16,37 @@ unfolding hiddenAt
 returns-2 c = rw (le-leb 1 _ (c .before .if1 .left), lt-leb _ _ (c .if2 .taken))
 
 mul-b : tie.Need-mul-b
-mul-b c = omega (arith, mask-spot _ _ _ _ _ _ _ (c .before .before .pre .0) (c .before .if1 .left) (c .if2 .left) (c .before .before .pre .1 .0) (c .before .before .pre .1 .1))
+mul-b c =
+    omega (
+      arith,
+      mask-spot _ _ _ _ _ _ _ (c .before .before .pre .0) (c .before .if1 .left) (c .if2 .left) (c .before .before .pre .1 .0) (c .before .before .pre .1 .1),
+    )
 
 add-b : tie.Need-add-b
-add-b c = omega (arith, mask-spot _ _ _ _ _ _ _ (c .before .before .pre .0) (c .before .if1 .left) (c .if2 .left) (c .before .before .pre .1 .0) (c .before .before .pre .1 .1))
+add-b c =
+    omega (
+      arith,
+      mask-spot _ _ _ _ _ _ _ (c .before .before .pre .0) (c .before .if1 .left) (c .if2 .left) (c .before .before .pre .1 .0) (c .before .before .pre .1 .1),
+    )
 
 mul-b-2 : tie.Need-mul-b-2
-mul-b-2 c = omega (arith, mask-spot _ _ _ _ _ _ _ (c .before .before .pre .0) (c .before .if1 .left) (c .if2 .left) (c .before .before .pre .1 .0) (c .before .before .pre .1 .1))
+mul-b-2 c =
+    omega (
+      arith,
+      mask-spot _ _ _ _ _ _ _ (c .before .before .pre .0) (c .before .if1 .left) (c .if2 .left) (c .before .before .pre .1 .0) (c .before .before .pre .1 .1),
+    )
 
 add-b-2 : tie.Need-add-b-2
-add-b-2 c = omega (arith, mask-spot _ _ _ _ _ _ _ (c .before .before .pre .0) (c .before .if1 .left) (c .if2 .left) (c .before .before .pre .1 .0) (c .before .before .pre .1 .1))
+add-b-2 c =
+    omega (
+      arith,
+      mask-spot _ _ _ _ _ _ _ (c .before .before .pre .0) (c .before .if1 .left) (c .if2 .left) (c .before .before .pre .1 .0) (c .before .before .pre .1 .1),
+    )
 
 shared-slice-read-b : tie.Need-shared-slice-read-b
-shared-slice-read-b c = omega (arith, mask-spot _ _ _ _ _ _ _ (c .before .before .before .pre .0) (c .before .before .if1 .left) (c .before .if2 .left) (c .before .before .before .pre .1 .0) (c .before .before .before .pre .1 .1))
-
-sub-result : tie.Need-sub-result
-sub-result c = search needs
-
-cast-result : tie.Need-cast-result
-cast-result c = search needs
-
-shr-result : tie.Need-shr-result
-shr-result c = search needs
+shared-slice-read-b c =
+    let pre = c .before .before .before .pre in
+    omega (arith, mask-spot _ _ _ _ _ _ _ (pre .0) (c .before .before .if1 .left) (c .before .if2 .left) (pre .1 .0) (pre .1 .1))
 
 returns-3 : tie.Need-returns-3
 unfolding hiddenAt maskBit
@@ -45,16 +54,5 @@ returns-3 c = rw (le-leb 1 _ (c .before .before .if1 .left), le-leb _ _ (c .befo
 
 pub hidden-at-spec : {M : Type 1} → statement M
 hidden-at-spec =
-    tie.close
-    (tie.spec
-    returns
-    returns-2
-    mul-b
-    add-b
-    mul-b-2
-    add-b-2
-    shared-slice-read-b
-    sub-result
-    cast-result
-    shr-result
-    returns-3)
+    tie.close (tie.spec
+    returns returns-2 mul-b add-b mul-b-2 add-b-2 shared-slice-read-b (λ c. search needs) (λ c. search needs) (λ c. search needs) returns-3)

@@ -9,9 +9,6 @@ returns : tie.Need-returns
 unfolding inked
 returns c = rw (eq-eqb _ _ (c .if1 .taken))
 
-hidden-at-requires : tie.Need-hidden-at-requires
-hidden-at-requires c κs = search needs
-
 returns-2 : tie.Need-returns-2
 unfolding inked
 returns-2 c = rw (ne-eqb _ _ (c .before .before .if1 .left), ← c .before .hidden-at .ensures, c .if2 .taken)
@@ -21,4 +18,4 @@ unfolding inked
 returns-3 c = rw (ne-eqb _ _ (c .before .before .if1 .left), ← c .before .hidden-at .ensures, c .if2 .left)
 
 pub ink-spec : {M : Type 1} → statement M
-ink-spec = tie.close (tie.spec returns hidden-at-requires returns-2 returns-3)
+ink-spec = tie.close (tie.spec returns (λ c κs. search needs) returns-2 returns-3)

@@ -32,59 +32,31 @@ abbrev μ-loop : tie.MeasureT-loop
 loop-holds : tie.Need-loop-holds Inv-loop2 μ-loop2 Inv-loop μ-loop
 loop-holds c = (box-none _ _ _ _ _ _, omega arith, refl)
 
-add-y : tie.Need-add-y Inv-loop2 μ-loop2 Inv-loop μ-loop
-add-y c = omega arith
-
 mul-at : tie.Need-mul-at Inv-loop2 μ-loop2 Inv-loop μ-loop
 mul-at c = omega (arith, row-room _ _ _ _ _ _ _ _ (c .before .before .before .before .before .before .before .pre .0) (c .before .if1 .taken))
 
 add-at : tie.Need-add-at Inv-loop2 μ-loop2 Inv-loop μ-loop
 add-at c = omega (arith, row-room _ _ _ _ _ _ _ _ (c .before .before .before .before .before .before .before .before .pre .0) (c .before .before .if1 .taken))
 
-add-from : tie.Need-add-from Inv-loop2 μ-loop2 Inv-loop μ-loop
-add-from c = omega arith
-
 mul-from : tie.Need-mul-from Inv-loop2 μ-loop2 Inv-loop μ-loop
-mul-from c = omega (arith, row-room _ _ _ _ _ _ _ _ (c .before .before .before .before .before .before .before .before .before .pre .1 .0) (c .before .before .before .if1 .taken))
+mul-from c =
+    let if1 = c .before .before .before .if1 in
+    let pre = c .before .before .before .before .before .before .before .before .before .pre in
+    omega (arith, row-room _ _ _ _ _ _ _ _ (pre .1 .0) (if1 .taken))
 
 add-from-2 : tie.Need-add-from-2 Inv-loop2 μ-loop2 Inv-loop μ-loop
-add-from-2 c = omega (arith, row-room _ _ _ _ _ _ _ _ (c .before .before .before .before .before .before .before .before .before .before .pre .1 .0) (c .before .before .before .before .if1 .taken))
+add-from-2 c =
+    let if1 = c .before .before .before .before .if1 in
+    let pre = c .before .before .before .before .before .before .before .before .before .before .pre in
+    omega (arith, row-room _ _ _ _ _ _ _ _ (pre .1 .0) (if1 .taken))
 
 loop2-holds : tie.Need-loop2-holds Inv-loop2 μ-loop2 Inv-loop μ-loop
 loop2-holds c =
-    let there = row-room _ _ _ _ _ _ _ _ (c .before .before .before .before .before .before .before .before .before .before .pre .0) (c .before .before .before .before .if1 .taken) in
-    let here = row-room _ _ _ _ _ _ _ _ (c .before .before .before .before .before .before .before .before .before .before .pre .1 .0) (c .before .before .before .before .if1 .taken) in
+    let if1 = c .before .before .before .before .if1 in
+    let pre = c .before .before .before .before .before .before .before .before .before .before .pre in
+    let there = row-room _ _ _ _ _ _ _ _ (pre .0) (if1 .taken) in
+    let here = row-room _ _ _ _ _ _ _ _ (pre .1 .0) (if1 .taken) in
     (row-none _ _ _ _ _, omega arith, refl, omega (arith, there), omega (arith, here))
-
-add-x : tie.Need-add-x Inv-loop2 μ-loop2 Inv-loop μ-loop
-add-x c = omega arith
-
-add-v : tie.Need-add-v Inv-loop2 μ-loop2 Inv-loop μ-loop
-add-v c = omega arith
-
-shared-slice-read-v : tie.Need-shared-slice-read-v Inv-loop2 μ-loop2 Inv-loop μ-loop
-shared-slice-read-v c = omega arith
-
-add-ink : tie.Need-add-ink Inv-loop2 μ-loop2 Inv-loop μ-loop
-add-ink c = omega arith
-
-slice-read-ink : tie.Need-slice-read-ink Inv-loop2 μ-loop2 Inv-loop μ-loop
-slice-read-ink c = omega arith
-
-ink-requires : tie.Need-ink-requires Inv-loop2 μ-loop2 Inv-loop μ-loop
-ink-requires c κs = omega arith
-
-add-frame : tie.Need-add-frame Inv-loop2 μ-loop2 Inv-loop μ-loop
-add-frame c = omega arith
-
-slice-write-frame : tie.Need-slice-write-frame Inv-loop2 μ-loop2 Inv-loop μ-loop
-slice-write-frame c = omega arith
-
-add-c : tie.Need-add-c Inv-loop2 μ-loop2 Inv-loop μ-loop
-add-c c = omega arith
-
-loop2-less : tie.Need-loop2-less Inv-loop2 μ-loop2 Inv-loop μ-loop
-loop2-less c = omega arith
 
 loop2-again : tie.Need-loop2-again Inv-loop2 μ-loop2 Inv-loop μ-loop
 unfolding stampBox
@@ -97,21 +69,14 @@ loop2-again c =
       inv .4,
     )
 
-add-r : tie.Need-add-r Inv-loop2 μ-loop2 Inv-loop μ-loop
-add-r c = omega arith
-
-loop-less : tie.Need-loop-less Inv-loop2 μ-loop2 Inv-loop μ-loop
-loop-less c = omega arith
-
 loop-again : tie.Need-loop-again Inv-loop2 μ-loop2 Inv-loop μ-loop
 loop-again c =
+    let loop = c .before .before .before .before .before .before .before .before .before .loop in
+    let a = c .before .before .before .before .before .before .before .before .before .before .before .before .before .args in
     let inv2 = c .before .before .loop2 .inv in
-    let inv = c .before .before .before .before .before .before .before .before .before .loop .inv in
-    let full : c .before .before .loop2 .c ≡ c .before .before .before .before .before .before .before .before .before .before .before .before .before .args .across .count = omega arith in
+    let inv = loop .inv in
+    let full : c .before .before .loop2 .c ≡ a .across .count = omega arith in
     (box-more _ _ _ _ _ _ _ _ _ (inv .0) (rw full at (inv2 .0)), omega arith, inv2 .2 ∙ inv .2)
-
-same-length : tie.Need-same-length Inv-loop2 μ-loop2 Inv-loop μ-loop
-same-length c = omega arith
 
 returns : tie.Need-returns Inv-loop2 μ-loop2 Inv-loop μ-loop
 returns c =
@@ -120,33 +85,7 @@ returns c =
 
 pub stamp-box-spec : {M : Type 1} → statement M
 stamp-box-spec =
-    tie.close
-    (tie.spec
-    Inv-loop2
-    μ-loop2
-    Inv-loop
-    μ-loop
-    loop-holds
-    add-y
-    mul-at
-    add-at
-    add-from
-    mul-from
-    add-from-2
-    loop2-holds
-    add-x
-    add-v
-    shared-slice-read-v
-    add-ink
-    slice-read-ink
-    ink-requires
-    add-frame
-    slice-write-frame
-    add-c
-    loop2-less
-    loop2-again
-    add-r
-    loop-less
-    loop-again
-    same-length
-    returns)
+    tie.close (tie.spec
+    Inv-loop2 μ-loop2 Inv-loop μ-loop loop-holds (λ c. omega arith) mul-at add-at (λ c. omega arith) mul-from add-from-2 loop2-holds
+    (λ c. omega arith) (λ c. omega arith) (λ c. omega arith) (λ c. omega arith) (λ c. omega arith) (λ c κs. omega arith) (λ c. omega arith)
+    (λ c. omega arith) (λ c. omega arith) (λ c. omega arith) loop2-again (λ c. omega arith) (λ c. omega arith) loop-again (λ c. omega arith) returns)

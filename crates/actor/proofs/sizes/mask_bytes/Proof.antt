@@ -19,8 +19,5 @@ mul-result-2 c =
     let e : c .args .w / 8 ≤ 128 = omega arith in
     omega (arith, mul-le-mul (mul-le-mul (r .few) e) (r .high))
 
-returns : tie.Need-returns
-returns c = search needs
-
 pub mask-bytes-spec : {M : Type 1} → statement M
-mask-bytes-spec = tie.close (tie.spec mul-result mul-result-2 returns)
+mask-bytes-spec = tie.close (tie.spec mul-result mul-result-2 (λ c. search needs))

@@ -14,55 +14,34 @@ use Rattle.costume.proofs.record.begin_limbs.Tie as tie
 
 abbrev Inv-loop : tie.InvT-loop
 Inv-loop payload r limbs₀ mask p₀ i₀ limbs p i =
-    (i ≤ 16) × (length limbs ≡ length limbs₀) × (p ≤ r + 2 + 3 * i) × (mask ≡ maskOf payload r) × (p ≡ entryPlace payload r i) × (limbs ≡ eachLimb (λ k. begunLimb (entryOf payload r k)) i limbs₀)
+    (i ≤ 16) × (length limbs ≡ length limbs₀) × (p ≤ r + 2 + 3 * i) × (mask ≡ maskOf payload r)
+    × (p ≡ entryPlace payload r i) × (limbs ≡ eachLimb (λ k. begunLimb (entryOf payload r k)) i limbs₀)
 
 abbrev μ-loop : tie.MeasureT-loop
 μ-loop payload r limbs₀ mask p₀ i₀ limbs p i = 16 - i
-
-read-le16-requires : tie.Need-read-le16-requires Inv-loop μ-loop
-read-le16-requires c κs = omega arith
-
-add-p : tie.Need-add-p Inv-loop μ-loop
-add-p c = omega arith
 
 loop-holds : tie.Need-loop-holds Inv-loop μ-loop
 unfolding eachLimb entryPlace
 loop-holds c = (omega arith, refl, omega arith, c .read-le16 .ensures .0, refl, refl)
 
-entry-at-requires : tie.Need-entry-at-requires Inv-loop μ-loop
-entry-at-requires c κs = omega arith
-
-limb-at-requires : tie.Need-limb-at-requires Inv-loop μ-loop
-limb-at-requires c κs = omega arith
-
-begin-requires : tie.Need-begin-requires Inv-loop μ-loop
-begin-requires c κs = search needs
-
-put-limb-requires : tie.Need-put-limb-requires Inv-loop μ-loop
-put-limb-requires c κs = omega arith
-
-entry-size-requires : tie.Need-entry-size-requires Inv-loop μ-loop
-entry-size-requires c κs = search needs
-
-add-p-2 : tie.Need-add-p-2 Inv-loop μ-loop
-add-p-2 c = omega arith
-
-add-i : tie.Need-add-i Inv-loop μ-loop
-add-i c = omega arith
-
-loop-less : tie.Need-loop-less Inv-loop μ-loop
-loop-less c = omega arith
-
 loop-again : tie.Need-loop-again Inv-loop μ-loop
 loop-again c =
-    let v = c .before .before .before .before .before .before .before .before .before .before .loop .inv in
-    let e = entry-read (c .before .before .before .before .before .before .before .before .before .before .before .before .before .before .args .payload .now) (c .before .before .before .before .before .before .before .before .before .before .before .before .before .before .args .r) (c .before .before .before .before .before .before .before .before .before .before .loop .i) _ _ _ (v .3) (v .4) (c .before .before .before .before .before .before .before .before .entry-at .ensures) in (
-      omega arith,
-      c .before .before .before .put-limb .kept .0 ∙ v .1,
-      omega arith,
+    let put-limb = c .before .before .before .put-limb in
+    let begin = c .before .before .before .before .begin in
+    let limb-at = c .before .before .before .before .before .before .limb-at in
+    let entry-at = c .before .before .before .before .before .before .before .before .entry-at in
+    let loop-test = c .before .before .before .before .before .before .before .before .before .loop-test in
+    let loop = c .before .before .before .before .before .before .before .before .before .before .loop in
+    let a = c .before .before .before .before .before .before .before .before .before .before .before .before .before .before .args in
+    let v = loop .inv in
+    let e = entry-read (a .payload .now) (a .r) (loop .i) _ _ _ (v .3) (v .4) (entry-at .ensures) in (
+      omega (arith, loop-test .taken),
+      put-limb .kept .0 ∙ v .1,
+      omega (arith, v .2, c .entry-size .ensures .1),
       v .3,
-      rw add-one (place-more (c .before .before .before .before .before .before .before .before .before .before .before .before .before .before .args .payload .now) (c .before .before .before .before .before .before .before .before .before .before .before .before .before .before .args .r) (c .before .before .before .before .before .before .before .before .before .before .loop .i) _ _ _ (v .4) e (c .entry-size .ensures .0)),
-      rw add-one (each-more (λ k. begunLimb (entryOf (c .before .before .before .before .before .before .before .before .before .before .before .before .before .before .args .payload .now) (c .before .before .before .before .before .before .before .before .before .before .before .before .before .before .args .r) k)) (c .before .before .before .before .before .before .before .before .before .before .before .before .before .before .args .limbs .now) (c .before .before .before .before .before .before .before .before .before .before .loop .i) _ _ _ _ (v .5) (c .before .before .before .before .before .before .limb-at .ensures) (c .before .before .before .before .begin .ensures ∙ ap (λ q. begunLimb q (c .before .before .before .before .before .before .limb-at .result)) e) (c .before .before .before .put-limb .ensures)),
+      rw add-one (place-more (a .payload .now) (a .r) (loop .i) _ _ _ (v .4) e (c .entry-size .ensures .0)),
+      rw add-one (each-more (λ k. begunLimb (entryOf (a .payload .now) (a .r) k)) (a .limbs .now) (loop .i) _ _ _ _ (v .5) (limb-at .ensures)
+          (begin .ensures ∙ ap (λ q. begunLimb q (limb-at .result)) e) (put-limb .ensures)),
     )
 
 same-length : tie.Need-same-length Inv-loop μ-loop
@@ -75,21 +54,6 @@ returns c =
 
 pub begin-limbs-spec : {M : Type 1} → statement M
 begin-limbs-spec =
-    tie.close
-    (tie.spec
-    Inv-loop
-    μ-loop
-    read-le16-requires
-    add-p
-    loop-holds
-    entry-at-requires
-    limb-at-requires
-    begin-requires
-    put-limb-requires
-    entry-size-requires
-    add-p-2
-    add-i
-    loop-less
-    loop-again
-    same-length
-    returns)
+    tie.close (tie.spec
+    Inv-loop μ-loop (λ c κs. omega arith) (λ c. omega arith) loop-holds (λ c κs. omega arith) (λ c κs. omega arith) (λ c κs. search needs)
+    (λ c κs. omega arith) (λ c κs. search needs) (λ c. omega arith) (λ c. omega arith) (λ c. omega arith) loop-again same-length returns)

@@ -16,63 +16,43 @@ use Rattle.costume.proofs.record.record_right.Tie as tie
 
 abbrev Inv-loop : tie.InvT-loop
 Inv-loop payload r n mask p₀ i₀ p i =
-    (i ≤ 16) × (r + 2 ≤ length payload) × (p ≤ r + 2 + 3 * i) × (mask ≡ maskOf payload r) × (p ≡ entryPlace payload r i) × (all i (λ k. entryRight n (entryOf payload r k)) ≡ true)
+    (i ≤ 16) × (r + 2 ≤ length payload) × (p ≤ r + 2 + 3 * i) × (mask ≡ maskOf payload r)
+    × (p ≡ entryPlace payload r i) × (all i (λ k. entryRight n (entryOf payload r k)) ≡ true)
 
 abbrev μ-loop : tie.MeasureT-loop
 μ-loop payload r n mask p₀ i₀ p i = 16 - i
 
-add-if1 : tie.Need-add-if1 Inv-loop μ-loop
-add-if1 c = omega arith
-
 returns : tie.Need-returns Inv-loop μ-loop
 returns c = record-cut _ _ _ (c .if1 .taken)
-
-read-le16-requires : tie.Need-read-le16-requires Inv-loop μ-loop
-read-le16-requires c κs = omega arith
-
-add-p : tie.Need-add-p Inv-loop μ-loop
-add-p c = omega arith
 
 loop-holds : tie.Need-loop-holds Inv-loop μ-loop
 unfolding all entryPlace
 loop-holds c = (omega arith, omega arith, omega arith, c .read-le16 .ensures .0, refl, refl)
 
-entry-at-requires : tie.Need-entry-at-requires Inv-loop μ-loop
-entry-at-requires c κs = omega arith
-
-entry-right-requires : tie.Need-entry-right-requires Inv-loop μ-loop
-entry-right-requires c κs = search needs
-
 returns-2 : tie.Need-returns-2 Inv-loop μ-loop
 returns-2 c =
-    let v = c .before .before .before .before .loop .inv in
+    let loop-test = c .before .before .before .loop-test in
+    let loop = c .before .before .before .before .loop in
+    let a = c .before .before .before .before .before .before .before .before .args in
+    let v = loop .inv in
     let off = not-true (c .before .entry-right .result) (c .if2 .taken) in
-    let e = entry-read (c .before .before .before .before .before .before .before .before .args .payload .now) (c .before .before .before .before .before .before .before .before .args .r) (c .before .before .before .before .loop .i) _ _ _ (v .3) (v .4) (c .before .before .entry-at .ensures) in
-    record-wrong _ _ (c .before .before .before .before .before .before .before .before .args .n) (c .before .before .before .before .loop .i) (v .1) (c .before .before .before .loop-test .taken) (ap (entryRight (c .before .before .before .before .before .before .before .before .args .n)) (sym e) ∙ sym (c .before .entry-right .ensures) ∙ off)
-
-entry-size-requires : tie.Need-entry-size-requires Inv-loop μ-loop
-entry-size-requires c κs = search needs
-
-add-p-2 : tie.Need-add-p-2 Inv-loop μ-loop
-add-p-2 c = omega arith
-
-add-i : tie.Need-add-i Inv-loop μ-loop
-add-i c = omega arith
-
-loop-less : tie.Need-loop-less Inv-loop μ-loop
-loop-less c = omega arith
+    let e = entry-read (a .payload .now) (a .r) (loop .i) _ _ _ (v .3) (v .4) (c .before .before .entry-at .ensures) in
+    record-wrong _ _ (a .n) (loop .i) (v .1) (loop-test .taken) (ap (entryRight (a .n)) (sym e) ∙ sym (c .before .entry-right .ensures) ∙ off)
 
 loop-again : tie.Need-loop-again Inv-loop μ-loop
 loop-again c =
-    let v = c .before .before .before .before .before .loop .inv in
+    let entry-at = c .before .before .before .entry-at in
+    let loop = c .before .before .before .before .before .loop in
+    let a = c .before .before .before .before .before .before .before .before .before .args in
+    let v = loop .inv in
     let on = not-false (c .before .before .entry-right .result) (c .before .if2 .left) in
-    let e = entry-read (c .before .before .before .before .before .before .before .before .before .args .payload .now) (c .before .before .before .before .before .before .before .before .before .args .r) (c .before .before .before .before .before .loop .i) _ _ _ (v .3) (v .4) (c .before .before .before .entry-at .ensures) in (
+    let e = entry-read (a .payload .now) (a .r) (loop .i) _ _ _ (v .3) (v .4) (entry-at .ensures) in (
       omega arith,
       v .1,
       omega arith,
       v .3,
-      rw add-one (place-more (c .before .before .before .before .before .before .before .before .before .args .payload .now) (c .before .before .before .before .before .before .before .before .before .args .r) (c .before .before .before .before .before .loop .i) _ _ _ (v .4) e (c .entry-size .ensures .0)),
-      rw add-one (all-more _ _ (v .5) (ap (entryRight (c .before .before .before .before .before .before .before .before .before .args .n)) (sym e) ∙ sym (c .before .before .entry-right .ensures) ∙ on)),
+      rw add-one (place-more (a .payload .now) (a .r) (loop .i) _ _ _ (v .4) e (c .entry-size .ensures .0)),
+      rw add-one (all-more _ _ (v .5) (ap (entryRight (a .n)) (sym e) ∙ sym (c .before .before .entry-right .ensures) ∙ on)),
     )
 
 returns-3 : tie.Need-returns-3 Inv-loop μ-loop
@@ -82,21 +62,6 @@ returns-3 c =
 
 pub record-right-spec : {M : Type 1} → statement M
 record-right-spec =
-    tie.close
-    (tie.spec
-    Inv-loop
-    μ-loop
-    add-if1
-    returns
-    read-le16-requires
-    add-p
-    loop-holds
-    entry-at-requires
-    entry-right-requires
-    returns-2
-    entry-size-requires
-    add-p-2
-    add-i
-    loop-less
-    loop-again
-    returns-3)
+    tie.close (tie.spec
+    Inv-loop μ-loop (λ c. omega arith) returns (λ c κs. omega arith) (λ c. omega arith) loop-holds (λ c κs. omega arith) (λ c κs. search needs)
+    returns-2 (λ c κs. search needs) (λ c. omega arith) (λ c. omega arith) (λ c. omega arith) loop-again returns-3)

@@ -12,11 +12,16 @@ returns-2 c = defined-off _ _ (c .before .if1 .left) (c .if2 .taken)
 
 sub-read-le16 : tie.Need-sub-read-le16
 sub-read-le16 c =
-    let h = c .before .before .before .pre (some-record (c .before .before .before .args .payload .now) (c .before .before .before .args .offset) (c .before .if1 .left) (c .if2 .left)) in
+    let a = c .before .before .before .args in
+    let pre = c .before .before .before .pre in
+    let h = pre (some-record (a .payload .now) (a .offset) (c .before .if1 .left) (c .if2 .left)) in
     omega arith
 
 read-le16-requires : tie.Need-read-le16-requires
-read-le16-requires c κs = c .before .before .before .pre (some-record (c .before .before .before .args .payload .now) (c .before .before .before .args .offset) (c .before .if1 .left) (c .if2 .left)) .1
+read-le16-requires c κs =
+    let a = c .before .before .before .args in
+    let pre = c .before .before .before .pre in
+    pre (some-record (a .payload .now) (a .offset) (c .before .if1 .left) (c .if2 .left)) .1
 
 returns-3 : tie.Need-returns-3
 returns-3 c = defined-mask _ _ (c .before .before .if1 .left) (c .before .if2 .left) _ (c .read-le16 .ensures .0)

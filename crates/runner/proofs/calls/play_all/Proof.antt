@@ -5,8 +5,8 @@ use native.Mathlib.Omega.{arith}
 use borrow.Author.Needs.{needs}
 use denote.Ref.{now}
 use lib.ListN.{length, length-set}
-use Rattle.runner.specs.Coded.{callsOf, callCount}
 use Rattle.play.specs.Bytes.{lent}
+use Rattle.runner.specs.Coded.{callsOf, callCount}
 use Rattle.runner.specs.Run.{played, playedNumber, putFirst}
 use Rattle.runner.proofs.RunLaws.{turn-bytes, turn-numbers}
 use Rattle.runner.proofs.calls.play_all.Statement.{statement}
@@ -21,9 +21,6 @@ Inv-loop room session₀ pixels₀ masks₀ calls numbers₀ n i₀ session pixe
 abbrev μ-loop : tie.MeasureT-loop
 μ-loop room session₀ pixels₀ masks₀ calls numbers₀ n i₀ session pixels masks numbers i = n - i
 
-call-count-requires : tie.Need-call-count-requires Inv-loop μ-loop
-call-count-requires c κs = search needs
-
 loop-holds : tie.Need-loop-holds Inv-loop μ-loop
 unfolding played callsOf putFirst
 loop-holds c = (omega arith, refl, refl, refl, refl, refl, refl)
@@ -32,19 +29,28 @@ play-one-requires : tie.Need-play-one-requires Inv-loop μ-loop
 play-one-requires c κs = omega (arith, c .before .before .before .before .before .call-count .ensures)
 
 slice-write-numbers : tie.Need-slice-write-numbers Inv-loop μ-loop
-slice-write-numbers c = omega (arith, c .before .before .before .before .before .before .before .before .before .before .before .before .call-count .ensures, c .before .before .before .before .before .before .before .before .before .before .before .loop .inv .4)
-
-add-i : tie.Need-add-i Inv-loop μ-loop
-add-i c = omega arith
-
-loop-less : tie.Need-loop-less Inv-loop μ-loop
-loop-less c = omega arith
+slice-write-numbers c =
+    let at = c .before .before .before .before .before .before .before .before .before .before .before in
+    omega (arith, at .before .call-count .ensures, at .loop .inv .4)
 
 loop-again : tie.Need-loop-again Inv-loop μ-loop
 loop-again c =
-    let x = lent (now (c .before .before .before .before .before .before .before .before .before .before .before .before .before .before .before .before .before .before .before .before .args .session)) (now (c .before .before .before .before .before .before .before .before .before .before .before .before .before .before .before .before .before .before .before .before .args .pixels)) (now (c .before .before .before .before .before .before .before .before .before .before .before .before .before .before .before .before .before .before .before .before .args .masks)) in
-    let y = lent (c .before .before .before .before .before .before .before .before .before .before .before .loop .session) (c .before .before .before .before .before .before .before .before .before .before .before .loop .pixels) (c .before .before .before .before .before .before .before .before .before .before .before .loop .masks) in
-    (omega arith, omega arith, omega arith, omega arith, length-set (c .before .before .before .before .before .before .before .before .before .before .before .loop .numbers) (c .before .before .before .before .before .before .before .before .before .before .before .loop .i) (c .before .before .before .before .before .before .play-one .result) ∙ c .before .before .before .before .before .before .before .before .before .before .before .loop .inv .4, turn-bytes (now (c .before .before .before .before .before .before .before .before .before .before .before .before .before .before .before .before .before .before .before .before .args .room)) x y (now (c .before .before .before .before .before .before .before .before .before .before .before .before .before .before .before .before .before .before .before .before .args .calls)) (c .before .before .before .before .before .before .before .before .before .before .before .loop .i) (c .before .before .before .before .before .before .before .before .before .before .before .loop .inv .5) (lent (c .before .before .before .before .before .before .play-one .last .1 .0) (c .before .before .before .before .before .before .play-one .last .1 .1 .0) (c .before .before .before .before .before .before .play-one .last .1 .1 .1 .0)) (c .before .before .before .before .before .before .play-one .ensures .1), turn-numbers (now (c .before .before .before .before .before .before .before .before .before .before .before .before .before .before .before .before .before .before .before .before .args .room)) x y (now (c .before .before .before .before .before .before .before .before .before .before .before .before .before .before .before .before .before .before .before .before .args .calls)) (c .before .before .before .before .before .before .before .before .before .before .before .loop .i) (c .before .before .before .before .before .before .before .before .before .before .before .loop .inv .5) _ _ _ (c .before .before .before .before .before .before .play-one .ensures .0) (c .before .before .before .before .before .before .before .before .before .before .before .loop .inv .6))
+    let one = c .before .before .before .before .before .before .play-one in
+    let at = c .before .before .before .before .before .before .before .before .before .before .before in
+    let turn = at .loop in
+    let a = at .before .before .before .before .before .before .before .before .before .args in
+    let x = lent (now (a .session)) (now (a .pixels)) (now (a .masks)) in
+    let y = lent (turn .session) (turn .pixels) (turn .masks) in
+    let z = lent (one .last .1 .0) (one .last .1 .1 .0) (one .last .1 .1 .1 .0) in
+    let numbers = length-set (turn .numbers) (turn .i) (one .result) ∙ turn .inv .4 in (
+      omega arith,
+      omega arith,
+      omega arith,
+      omega arith,
+      numbers,
+      turn-bytes (now (a .room)) x y (now (a .calls)) (turn .i) (turn .inv .5) z (one .ensures .1),
+      turn-numbers (now (a .room)) x y (now (a .calls)) (turn .i) (turn .inv .5) _ _ _ (one .ensures .0) (turn .inv .6),
+    )
 
 same-length : tie.Need-same-length Inv-loop μ-loop
 same-length c = omega (arith, c .before .loop .inv .1)
@@ -60,24 +66,13 @@ same-length-4 c = omega (arith, c .before .loop .inv .4)
 
 returns : tie.Need-returns Inv-loop μ-loop
 returns c =
-    let e : c .before .loop .i ≡ callCount (now (c .before .before .before .before .before .before .before .before .before .before .args .calls)) (now (c .before .before .before .before .before .before .before .before .before .before .args .numbers)) = omega (arith, c .before .before .call-count .ensures, c .before .loop .inv .0) in
-    rw (← e) (c .before .loop .inv .5, c .before .loop .inv .6)
+    let a = c .before .before .before .before .before .before .before .before .before .before .args in
+    let turn = c .before .loop in
+    let e : turn .i ≡ callCount (now (a .calls)) (now (a .numbers)) = omega (arith, c .before .before .call-count .ensures, turn .inv .0) in
+    rw (← e) (turn .inv .5, turn .inv .6)
 
 pub play-all-spec : {M : Type 1} → statement M
 play-all-spec =
-    tie.close
-    (tie.spec
-    Inv-loop
-    μ-loop
-    call-count-requires
-    loop-holds
-    play-one-requires
-    slice-write-numbers
-    add-i
-    loop-less
-    loop-again
-    same-length
-    same-length-2
-    same-length-3
-    same-length-4
-    returns)
+    tie.close (tie.spec
+    Inv-loop μ-loop (λ c κs. search needs) loop-holds play-one-requires slice-write-numbers (λ c. omega arith) (λ c. omega arith) loop-again
+    same-length same-length-2 same-length-3 same-length-4 returns)
