@@ -1,7 +1,7 @@
 //! Scenes with actors: hidden pixels and stamps.
 
-use crate::bench::Bench;
 use crate::calls;
+use crate::comparison::Comparison;
 use crate::rng::{Rng, H, N, W, WIDTH};
 use crate::room_scenes::lent;
 use crate::rooms::sizes;
@@ -10,7 +10,7 @@ use reference::actor::Actor;
 const EDGES: [i32; 12] = [i32::MIN, i32::MIN + 1, -129, -128, -1, 0, 1, 127, 200, 1024, i32::MAX - 1, i32::MAX];
 
 /// Every point of a small room and its rim, under every clip.
-pub fn every_point(b: &mut Bench, r: &mut Rng) {
+pub fn every_point(b: &mut Comparison, r: &mut Rng) {
     let (w, h, n) = (8 * r.range(1, 3), r.range(1, 4), r.below(5));
     let masks = r.bytes(n * (w / 8) * h);
     for clip in [0, 1, 2, 3, 4, 5, 0x8000_0000, 0xFFFF_FFFF] {
@@ -23,7 +23,7 @@ pub fn every_point(b: &mut Bench, r: &mut Rng) {
 }
 
 /// Questions with strange numbers and buffers.
-pub fn questions(b: &mut Bench, r: &mut Rng) {
+pub fn questions(b: &mut Comparison, r: &mut Rng) {
     let ((w, h), n) = (sizes(r), r.below(5));
     let good = lent(r, n * (w / 8) * h);
     for _ in 0..60 {
@@ -41,7 +41,7 @@ fn picture(r: &mut Rng, size: usize) -> Vec<u8> {
 }
 
 /// A small picture at every offset, under every clip.
-pub fn every_offset(b: &mut Bench, r: &mut Rng) {
+pub fn every_offset(b: &mut Comparison, r: &mut Rng) {
     let (w, h, n) = (8 * r.range(1, 2), r.range(1, 5), r.below(5));
     let (width, height) = (r.range(1, 9), r.range(1, 4));
     let (frame, masks, picture) = (r.bytes(w * h), r.bytes(n * (w / 8) * h), picture(r, width * height));
@@ -56,7 +56,7 @@ pub fn every_offset(b: &mut Bench, r: &mut Rng) {
 }
 
 /// Stamps of any size anywhere, with strange numbers and buffers.
-pub fn stamps(b: &mut Bench, r: &mut Rng) {
+pub fn stamps(b: &mut Comparison, r: &mut Rng) {
     let ((w, h), n) = (sizes(r), r.below(5));
     let (width, height) = match r.below(8) {
         0 => (r.range(1, 128), r.range(1, 200)),

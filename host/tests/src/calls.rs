@@ -1,6 +1,6 @@
 //! The C interface (include/kildegrom.h), each call beside the reference's.
 
-use crate::bench::Bench;
+use crate::comparison::Comparison;
 use common::calls::*;
 use reference::{actor, costume, load as loads, object, session as sessions, write};
 
@@ -16,13 +16,13 @@ fn word(answer: Result<usize, u32>) -> (u32, u64) {
     }
 }
 
-pub fn record(b: &mut Bench, room: &[u8], record: &[u8]) {
+pub fn record(b: &mut Comparison, room: &[u8], record: &[u8]) {
     let library = |p: &[*mut u8]| unsafe { kg_record(p[0], room.len(), p[1], record.len()) as u64 };
     b.case("record", &[], &[("room", room), ("record", record)], library, |after| number(loads::record(room, &mut after[1])));
 }
 
 /// The load: its number, and session, pixels and masks afterwards.
-pub fn load(b: &mut Bench, room: &[u8], session: &[u8], pixels: &[u8], masks: &[u8]) -> (u32, [Vec<u8>; 3]) {
+pub fn load(b: &mut Comparison, room: &[u8], session: &[u8], pixels: &[u8], masks: &[u8]) -> (u32, [Vec<u8>; 3]) {
     let library = |p: &[*mut u8]| unsafe { kg_load(p[0], room.len(), p[1], session.len(), p[2], pixels.len(), p[3], masks.len()) as u64 };
     let buffers = [("room", room), ("session", session), ("pixels", pixels), ("masks", masks)];
     let (answer, _, after) = b.case("load", &[], &buffers, library, |after| {
@@ -68,7 +68,7 @@ impl Turn {
 }
 
 /// A draw, hide or take-back on `lent`, the session, pixels and masks: its number and these afterwards.
-pub fn turn(b: &mut Bench, turn: Turn, room: &[u8], lent: &[Vec<u8>; 3]) -> (u32, [Vec<u8>; 3]) {
+pub fn turn(b: &mut Comparison, turn: Turn, room: &[u8], lent: &[Vec<u8>; 3]) -> (u32, [Vec<u8>; 3]) {
     let (size, [s, x, m]) = (room.len(), [lent[0].len(), lent[1].len(), lent[2].len()]);
     let library = |p: &[*mut u8]| unsafe {
         match turn {
@@ -91,20 +91,20 @@ pub fn turn(b: &mut Bench, turn: Turn, room: &[u8], lent: &[Vec<u8>; 3]) -> (u32
     (answer, surfaces(after))
 }
 
-pub fn object_at(b: &mut Bench, room: &[u8], session: &[u8], flags: &[u8], x: u32, y: u32) {
+pub fn object_at(b: &mut Comparison, room: &[u8], session: &[u8], flags: &[u8], x: u32, y: u32) {
     let library = |p: &[*mut u8]| unsafe { kg_object_at(p[0], room.len(), p[1], session.len(), p[2], flags.len(), x, y) };
     let buffers = [("room", room), ("session", session), ("flags", flags)];
     let numbers = [x, y].map(i64::from);
     b.case("object_at", &numbers, &buffers, library, |_| word(reference::point::object_at(room, session, flags, x, y)));
 }
 
-pub fn header(b: &mut Bench, room: &[u8], header: &[u8], which: u32) {
+pub fn header(b: &mut Comparison, room: &[u8], header: &[u8], which: u32) {
     let library = |p: &[*mut u8]| unsafe { kg_header(p[0], room.len(), p[1], header.len(), which) as u64 };
     let buffers = [("room", room), ("header", header)];
     b.case("header", &[which as i64], &buffers, library, |after| number(object::header(room, &mut after[1], which)));
 }
 
-pub fn name(b: &mut Bench, room: &[u8], which: u32) {
+pub fn name(b: &mut Comparison, room: &[u8], which: u32) {
     let (answer, start, length) = object::name(room, which);
     let library = |p: &[*mut u8]| unsafe { kg_name(p[0], room.len(), which) };
     let place = start as u64 | (length as u64) << 32;
@@ -113,13 +113,13 @@ pub fn name(b: &mut Bench, room: &[u8], which: u32) {
     b.case("name_number", &[which as i64], &[("room", room)], library, |_| number(answer));
 }
 
-pub fn hidden(b: &mut Bench, masks: &[u8], [w, h, n]: [u32; 3], clip: u32, (x, y): (u32, u32)) {
+pub fn hidden(b: &mut Comparison, masks: &[u8], [w, h, n]: [u32; 3], clip: u32, (x, y): (u32, u32)) {
     let library = |p: &[*mut u8]| unsafe { kg_hidden(p[0], masks.len(), w, h, n, clip, x, y) };
     let numbers = [w, h, n, clip, x, y].map(i64::from);
     b.case("hidden", &numbers, &[("masks", masks)], library, |_| word(actor::hidden(masks, w, h, n, clip, x, y).map(usize::from)));
 }
 
-pub fn stamp(b: &mut Bench, frame: &[u8], masks: &[u8], w: u32, h: u32, n: u32, a: &actor::Actor) {
+pub fn stamp(b: &mut Comparison, frame: &[u8], masks: &[u8], w: u32, h: u32, n: u32, a: &actor::Actor) {
     let library = |p: &[*mut u8]| unsafe {
         let (width, height) = (a.width, a.height);
         kg_stamp(p[0], frame.len(), p[1], masks.len(), p[2], a.picture.len(), w, h, n, width, height, a.x, a.y, a.clip) as u64
@@ -138,7 +138,7 @@ pub struct Costume {
 }
 
 /// A start: the limbs after it.
-pub fn start(b: &mut Bench, payload: &[u8], limbs: &[u8], costume: Costume, chore: u32, direction: u32) -> Vec<u8> {
+pub fn start(b: &mut Comparison, payload: &[u8], limbs: &[u8], costume: Costume, chore: u32, direction: u32) -> Vec<u8> {
     let Costume { table, count, command } = costume;
     let library = |p: &[*mut u8]| unsafe { kg_start(p[0], payload.len(), p[1], limbs.len(), table, count, command, chore, direction) };
     let numbers = [table, count, command, chore, direction].map(i64::from);
@@ -149,7 +149,7 @@ pub fn start(b: &mut Bench, payload: &[u8], limbs: &[u8], costume: Costume, chor
 }
 
 /// A tick: the limbs after it.
-pub fn tick(b: &mut Bench, payload: &[u8], limbs: &[u8], command: u32) -> Vec<u8> {
+pub fn tick(b: &mut Comparison, payload: &[u8], limbs: &[u8], command: u32) -> Vec<u8> {
     let library = |p: &[*mut u8]| unsafe { kg_tick(p[0], payload.len(), p[1], limbs.len(), command) as u64 };
     let (_, _, mut after) = b.case("tick", &[command as i64], &[("payload", payload), ("limbs", limbs)], library, |after| {
         number(costume::tick(payload, &mut after[1], command))
@@ -157,7 +157,7 @@ pub fn tick(b: &mut Bench, payload: &[u8], limbs: &[u8], command: u32) -> Vec<u8
     after.pop().unwrap()
 }
 
-pub fn limb_draws(b: &mut Bench, limbs: &[u8], limb: u32) {
+pub fn limb_draws(b: &mut Comparison, limbs: &[u8], limb: u32) {
     let library = |p: &[*mut u8]| unsafe { kg_limb_draws(p[0], limbs.len(), limb) };
     b.case("limb_draws", &[limb as i64], &[("limbs", limbs)], library, |_| {
         word(costume::limb_draws(limbs, limb).map(|picture| picture.map_or(0, |picture| 256 + picture as usize)))
@@ -165,7 +165,7 @@ pub fn limb_draws(b: &mut Bench, limbs: &[u8], limb: u32) {
 }
 
 /// A written block, header included; nothing if refused.
-pub fn write_smap(b: &mut Bench, rows: &[u8], out: &[u8], w: u32, h: u32) -> Vec<u8> {
+pub fn write_smap(b: &mut Comparison, rows: &[u8], out: &[u8], w: u32, h: u32) -> Vec<u8> {
     let library = |p: &[*mut u8]| unsafe { kg_write_smap(p[0], rows.len(), p[1], out.len(), w, h) };
     let numbers = [w, h].map(i64::from);
     let (_, answer, mut after) =
@@ -173,7 +173,7 @@ pub fn write_smap(b: &mut Bench, rows: &[u8], out: &[u8], w: u32, h: u32) -> Vec
     after[1].drain(..(answer >> 32) as usize).collect()
 }
 
-pub fn write_plane(b: &mut Bench, rows: &[u8], out: &[u8], w: u32, h: u32, k: u32) -> Vec<u8> {
+pub fn write_plane(b: &mut Comparison, rows: &[u8], out: &[u8], w: u32, h: u32, k: u32) -> Vec<u8> {
     let library = |p: &[*mut u8]| unsafe { kg_write_plane(p[0], rows.len(), p[1], out.len(), w, h, k) };
     let numbers = [w, h, k].map(i64::from);
     let (_, answer, mut after) =

@@ -1,7 +1,7 @@
 //! Scenes with costumes: arbitrary bytes, and animations that play.
 
-use crate::bench::Bench;
 use crate::calls::{self, Costume};
+use crate::comparison::Comparison;
 use crate::rng::Rng;
 
 /// A limb that is right for a stream of `stream` bytes; idle if there is none.
@@ -41,7 +41,7 @@ fn spoil(r: &mut Rng, limbs: &mut [u8], stream: usize) {
     }
 }
 
-pub fn arbitrary(b: &mut Bench, r: &mut Rng) {
+pub fn arbitrary(b: &mut Comparison, r: &mut Rng) {
     for _ in 0..40 {
         let length = r.below(120);
         let payload = r.bytes(length);
@@ -70,7 +70,7 @@ pub fn arbitrary(b: &mut Bench, r: &mut Rng) {
 }
 
 /// A costume: table, records and stream in one payload.
-pub fn playing(b: &mut Bench, r: &mut Rng) {
+pub fn playing(b: &mut Comparison, r: &mut Rng) {
     let stream: Vec<u8> = (0..r.range(1, 300))
         .map(|_| match r.below(4) {
             0 => r.range(0x70, 0x7D) as u8,

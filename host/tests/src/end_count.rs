@@ -1,6 +1,6 @@
-//! Which deliberate ends of bodies (ends.rs) are planned, and how often each was read as it must be. A full run that leaves one out fails (bench.rs).
+//! Which deliberate ends of bodies (ends.rs) are planned, and how often each was read as it must be. A full run that leaves one out fails (comparison.rs).
 
-use crate::bench::Place;
+use crate::comparison::Place;
 use crate::ends::{codes, ends_of, method, operations, End, Last, Method, MOST, SHORT};
 use crate::strips::Operation;
 use std::collections::BTreeMap;

@@ -1,8 +1,8 @@
 //! Scenes with deliberate ends of bodies (ends.rs): each body whole, longer and cut, in a background and in an object's image, before another body and at
 //! the very end of a room that ends with its page. The reference says what the library must give, and the body itself says what both must.
 
-use crate::bench::{Bench, Place};
 use crate::calls::{self, Turn};
+use crate::comparison::{Comparison, Place};
 use crate::end_count::{Case, Spot, SPOTS};
 use crate::ends::{codes, ends_of, method, End, Ending, Size, ANY, LONG, SHORT};
 use crate::rng::Rng;
@@ -49,7 +49,7 @@ fn room(r: &mut Rng, place: Place, strips: &Strips, pad: usize) -> Node {
 }
 
 /// Reads strips of so many rows in all by a load or a draw: the call's name, its number, and what it leaves of pixels and masks.
-fn read(b: &mut Bench, r: &mut Rng, place: Place, room: &[u8], rows: usize) -> (&'static str, u32, [Vec<u8>; 2]) {
+fn read(b: &mut Comparison, r: &mut Rng, place: Place, room: &[u8], rows: usize) -> (&'static str, u32, [Vec<u8>; 2]) {
     let lent = [vec![0; 450], vec![2; 8 * rows], vec![3; rows]];
     let (object, state) = (1, 1);
     let turn = if r.once_in(2) { Turn::DrawLast { object, state } } else { Turn::DrawAt { object, state, a: 0, b: 0 } };
@@ -78,7 +78,7 @@ impl Scene<'_> {
     }
 
     /// Reads the body so changed. Its number must be the end's, and unused bytes must change nothing that is painted.
-    fn check(&mut self, b: &mut Bench, r: &mut Rng, change: i32, pad: usize) {
+    fn check(&mut self, b: &mut Comparison, r: &mut Rng, change: i32, pad: usize) {
         let (end, spot) = (self.end, self.spot);
         let Some(body) = self.ending.changed(change) else { return };
         let strips = self.strips(body);
@@ -96,7 +96,7 @@ impl Scene<'_> {
     }
 
     /// Counts a body that was read as it must be.
-    fn count(&self, b: &mut Bench, bytes: usize, change: i32, room: usize) {
+    fn count(&self, b: &mut Comparison, bytes: usize, change: i32, room: usize) {
         let (End { code, .. }, Spot { place, followed }, cut) = (self.end, self.spot, change < 0);
         let method = method(code);
         b.ends.reached(Case::Read { end: self.end, change, spot: self.spot });
@@ -115,7 +115,7 @@ impl Scene<'_> {
 }
 
 /// Every change at every spot; the whole body first, and at all places modulo 8 where the room ends with it.
-fn read_end(b: &mut Bench, r: &mut Rng, end: End, size: &Size) {
+fn read_end(b: &mut Comparison, r: &mut Rng, end: End, size: &Size) {
     let ending = end.body(r, size);
     let beside = Beside::new(r, ending.h);
     for spot in SPOTS {
@@ -131,7 +131,7 @@ fn read_end(b: &mut Bench, r: &mut Rng, end: End, size: &Size) {
 }
 
 /// The planned ends of a code, short and long. The codes are numbered from 0 on.
-pub fn planned(b: &mut Bench, r: &mut Rng, code: usize) {
+pub fn planned(b: &mut Comparison, r: &mut Rng, code: usize) {
     let codes = codes();
     for end in ends_of(codes[code % codes.len()]) {
         read_end(b, r, end, &SHORT);
@@ -139,7 +139,7 @@ pub fn planned(b: &mut Bench, r: &mut Rng, code: usize) {
     }
 }
 
-pub fn any_end(b: &mut Bench, r: &mut Rng) {
+pub fn any_end(b: &mut Comparison, r: &mut Rng) {
     let code = r.pick(&codes());
     let end = r.pick(&ends_of(code));
     read_end(b, r, end, &ANY);

@@ -7,8 +7,8 @@
 //!     tests speed            library : reference for loads of 640 × 200 rooms
 
 mod actor_scenes;
-mod bench;
 mod calls;
+mod comparison;
 mod costume_scenes;
 mod damage;
 mod end_count;
@@ -28,7 +28,7 @@ mod strips;
 mod tree;
 mod writer_scenes;
 
-use bench::Bench;
+use comparison::Comparison;
 use std::time::{Duration, Instant, SystemTime};
 
 /// About 90 seconds on one core.
@@ -37,7 +37,7 @@ const SEEDS: u64 = 100_000;
 /// A seed from here on is a code's planned ends of bodies. A full run takes one for each code, so that none is left to chance.
 const ENDS: u64 = 1 << 63;
 
-fn run(b: &mut Bench, seed: u64) {
+fn run(b: &mut Comparison, seed: u64) {
     let mut r = b.scene(seed);
     let r = &mut r;
     match seed % 40 {
@@ -69,7 +69,7 @@ fn run(b: &mut Bench, seed: u64) {
     }
 }
 
-fn soak(b: &mut Bench, seconds: u64) {
+fn soak(b: &mut Comparison, seconds: u64) {
     let now = SystemTime::now().duration_since(SystemTime::UNIX_EPOCH).expect("a clock").as_secs();
     let (begun, mut told) = (Instant::now(), Instant::now());
     let mut seed = now << 24;
@@ -104,7 +104,7 @@ fn speed(seed: u64) {
 fn main() {
     let arguments: Vec<String> = std::env::args().skip(1).collect();
     let number = |i: usize| arguments.get(i).and_then(|text| text.parse::<u64>().ok());
-    let b = &mut Bench::new();
+    let b = &mut Comparison::new();
     let mut full = true;
     match arguments.first().map(String::as_str) {
         Some("speed") => return (1..=4).for_each(speed),

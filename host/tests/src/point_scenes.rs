@@ -1,7 +1,7 @@
 //! Scenes with points: the object under many points, in sessions right and wrong, under any flags.
 
-use crate::bench::Bench;
 use crate::calls;
+use crate::comparison::Comparison;
 use crate::damage;
 use crate::maker::{grown, some_calls, spoil, written, Maker};
 use crate::rng::Rng;
@@ -27,7 +27,7 @@ fn flags(r: &mut Rng, objects: usize) -> Vec<u8> {
     flags
 }
 
-pub fn points(b: &mut Bench, r: &mut Rng) {
+pub fn points(b: &mut Comparison, r: &mut Rng) {
     let mut plan = stages::stage(r);
     let (mut room, mut maker) = (plan.root.write(), Maker::new(r, &mut plan));
     let (calls, scene) = (some_calls(r, &maker), Scene::new(&room, |_| true).expect("a stage"));

@@ -1,6 +1,6 @@
 //! Scenes with rooms: good ones, damaged ones, arbitrary bytes.
 
-use crate::bench::Bench;
+use crate::comparison::Comparison;
 use crate::rng::Rng;
 use crate::rooms::{self, Plan};
 use crate::strips::{any_code, mask_body, pixel_body, Fault, Strips};
@@ -26,7 +26,7 @@ pub fn lent(r: &mut Rng, need: usize) -> Vec<u8> {
 }
 
 /// Every call that takes a room's bytes.
-fn ask(b: &mut Bench, r: &mut Rng, room: &[u8], w: usize, h: usize, n: usize, objects: usize) {
+fn ask(b: &mut Comparison, r: &mut Rng, room: &[u8], w: usize, h: usize, n: usize, objects: usize) {
     let (w, h) = (w.min(1032), h.min(201));
     let big = w * h > 20_000;
     for _ in 0..if big { 1 } else { 3 } {
@@ -49,12 +49,12 @@ fn ask(b: &mut Bench, r: &mut Rng, room: &[u8], w: usize, h: usize, n: usize, ob
     }
 }
 
-fn ask_plan(b: &mut Bench, r: &mut Rng, plan: &mut Plan, room: &[u8]) {
+fn ask_plan(b: &mut Comparison, r: &mut Rng, plan: &mut Plan, room: &[u8]) {
     let objects = plan.objects();
     ask(b, r, room, plan.w, plan.h, plan.n, objects);
 }
 
-pub fn good(b: &mut Bench, r: &mut Rng) {
+pub fn good(b: &mut Comparison, r: &mut Rng) {
     let mut plan = rooms::room(r);
     let (room, w, h, n) = (plan.root.write(), plan.w, plan.h, plan.n);
     let (number, ..) = calls::load(b, &room, &[1; 450], &vec![2; w * h], &vec![3; n * (w / 8) * h]);
@@ -64,7 +64,7 @@ pub fn good(b: &mut Bench, r: &mut Rng) {
     ask_plan(b, r, &mut plan, &room);
 }
 
-pub fn damaged(b: &mut Bench, r: &mut Rng) {
+pub fn damaged(b: &mut Comparison, r: &mut Rng) {
     let mut plan = rooms::room(r);
     let kinds = [damage::tree, damage::needed, damage::sizes, damage::table, damage::body];
     let first = r.pick(&kinds);
@@ -78,7 +78,7 @@ pub fn damaged(b: &mut Bench, r: &mut Rng) {
 }
 
 /// Several bad tables and bodies at once: which one is named?
-pub fn order(b: &mut Bench, r: &mut Rng) {
+pub fn order(b: &mut Comparison, r: &mut Rng) {
     let (w, h, n) = (8 * r.range(1, 6), r.range(1, 20), r.range(0, 4));
     let mut plan = rooms::room_of(r, w, h, n);
     for _ in 0..r.range(1, 4) {
@@ -93,9 +93,9 @@ pub fn order(b: &mut Bench, r: &mut Rng) {
 }
 
 /// Small rooms whose bodies hold arbitrary bytes, and good bodies cut at every byte.
-pub fn bodies(b: &mut Bench, r: &mut Rng) {
+pub fn bodies(b: &mut Comparison, r: &mut Rng) {
     let (h, strips) = (r.range(1, 6), r.range(1, 2));
-    let load = |b: &mut Bench, pixels: Vec<Vec<u8>>, rows: Vec<Option<Vec<u8>>>| {
+    let load = |b: &mut Comparison, pixels: Vec<Vec<u8>>, rows: Vec<Option<Vec<u8>>>| {
         let block = |width, bodies| Strips::tight(width, h, bodies).payload();
         let image = vec![leaf(b"SMAP", block(4, pixels.into_iter().map(Some).collect())), leaf(b"ZP01", block(2, rows))];
         let room = rooms::least_room(8 * strips, h, 1, image).write();
@@ -127,7 +127,7 @@ pub fn bodies(b: &mut Bench, r: &mut Rng) {
 }
 
 /// Flips and cuts: several on one room.
-pub fn flipped(b: &mut Bench, r: &mut Rng) {
+pub fn flipped(b: &mut Comparison, r: &mut Rng) {
     let (w, h, n) = (8 * r.range(1, 4), r.range(1, 8), r.below(4));
     let mut plan = rooms::room_of(r, w, h, n);
     let whole = plan.root.write();
@@ -139,7 +139,7 @@ pub fn flipped(b: &mut Bench, r: &mut Rng) {
 }
 
 /// Every cut of a small room, and every size field at every edge.
-pub fn every_cut(b: &mut Bench, r: &mut Rng) {
+pub fn every_cut(b: &mut Comparison, r: &mut Rng) {
     let mut plan = rooms::room_of(r, 8, 1, 1);
     let whole = plan.root.write();
     for length in 0..whole.len().min(400) {
@@ -161,7 +161,7 @@ pub fn every_cut(b: &mut Bench, r: &mut Rng) {
 }
 
 /// Arbitrary bytes and arbitrary trees as rooms.
-pub fn arbitrary(b: &mut Bench, r: &mut Rng) {
+pub fn arbitrary(b: &mut Comparison, r: &mut Rng) {
     for _ in 0..10 {
         let length = r.below(60);
         let mut room = r.bytes(length);
@@ -179,7 +179,7 @@ pub fn arbitrary(b: &mut Bench, r: &mut Rng) {
 }
 
 /// A room from a file, with every object's number and some more.
-pub fn given(b: &mut Bench, room: &[u8]) {
+pub fn given(b: &mut Comparison, room: &[u8]) {
     calls::record(b, room, &[1; 16]);
     calls::load(b, room, &[1; 450], &[2; 1024 * 200], &[3; 4 * 128 * 200]);
     for object in 0..130 {
@@ -190,7 +190,7 @@ pub fn given(b: &mut Bench, room: &[u8]) {
 }
 
 /// The room's largest size, and one byte more.
-pub fn at_the_limit(b: &mut Bench, r: &mut Rng) {
+pub fn at_the_limit(b: &mut Comparison, r: &mut Rng) {
     let mut plan = rooms::room_of(r, 8, 2, 1);
     let size = plan.root.write().len();
     for limit in [1_048_575, 1_048_576, 1_048_577] {

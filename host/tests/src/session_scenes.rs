@@ -1,7 +1,7 @@
 //! Scenes with sessions: lists of draws, hides and take-backs on loaded rooms; then sessions, surfaces and rooms of other origin.
 
-use crate::bench::Bench;
 use crate::calls::{self, Turn};
+use crate::comparison::Comparison;
 use crate::maker::{grown, listed, some_calls, spoil, written, Maker};
 use crate::rng::Rng;
 use crate::room_scenes::lent;
@@ -20,7 +20,7 @@ fn stands(scene: &Scene, steps: &[Step], lent: &[Vec<u8>; 3]) -> bool {
 }
 
 /// One call of a list, first perhaps with a buffer too short, then as demand 3 has it.
-fn play(b: &mut Bench, r: &mut Rng, scene: &Scene, maker: &mut Maker, steps: &mut Vec<Step>, lent: &mut [Vec<u8>; 3], turn: Turn) {
+fn play(b: &mut Comparison, r: &mut Rng, scene: &Scene, maker: &mut Maker, steps: &mut Vec<Step>, lent: &mut [Vec<u8>; 3], turn: Turn) {
     if r.once_in(25) {
         let mut short = lent.clone();
         let (which, needs) = (r.below(3), maker.needs());
@@ -42,7 +42,7 @@ fn play(b: &mut Bench, r: &mut Rng, scene: &Scene, maker: &mut Maker, steps: &mu
 }
 
 /// A list on a loaded room; often all is taken back in the end, which gives the load's surfaces again.
-fn list_of(b: &mut Bench, r: &mut Rng, calls: usize) {
+fn list_of(b: &mut Comparison, r: &mut Rng, calls: usize) {
     let mut plan = stages::stage(r);
     let (room, mut maker) = (plan.root.write(), Maker::new(r, &mut plan));
     let lent = maker.needs().map(|need| need + if r.once_in(4) { r.below(20) } else { 0 }).map(|need| r.bytes(need));
@@ -66,12 +66,12 @@ fn list_of(b: &mut Bench, r: &mut Rng, calls: usize) {
     }
 }
 
-pub fn list(b: &mut Bench, r: &mut Rng) {
+pub fn list(b: &mut Comparison, r: &mut Rng) {
     let calls = r.range(5, 40);
     list_of(b, r, calls);
 }
 
-pub fn long_list(b: &mut Bench, r: &mut Rng) {
+pub fn long_list(b: &mut Comparison, r: &mut Rng) {
     let calls = r.range(150, 400);
     list_of(b, r, calls);
 }
@@ -85,7 +85,7 @@ fn strange(r: &mut Rng, session: Vec<u8>, needs: [usize; 3]) -> [Vec<u8>; 3] {
 }
 
 /// Right and damaged sessions over surfaces that no load has painted.
-pub fn strangers(b: &mut Bench, r: &mut Rng) {
+pub fn strangers(b: &mut Comparison, r: &mut Rng) {
     let mut plan = stages::stage(r);
     let (room, mut maker) = (plan.root.write(), Maker::new(r, &mut plan));
     let scene = Scene::new(&room, |_| true).expect("a stage");
@@ -106,7 +106,7 @@ pub fn strangers(b: &mut Bench, r: &mut Rng) {
 }
 
 /// Sessions in a room that was changed since, or that is damaged, or is another one.
-pub fn changed_rooms(b: &mut Bench, r: &mut Rng) {
+pub fn changed_rooms(b: &mut Comparison, r: &mut Rng) {
     let mut plan = stages::stage(r);
     let (room, mut maker) = (plan.root.write(), Maker::new(r, &mut plan));
     let scene = Scene::new(&room, |_| true).expect("a stage");
@@ -139,7 +139,7 @@ pub fn changed_rooms(b: &mut Bench, r: &mut Rng) {
 }
 
 /// A room from a file: every object's states at their place, hidden, elsewhere; then all of it taken back.
-pub fn given(b: &mut Bench, room: &[u8]) {
+pub fn given(b: &mut Comparison, room: &[u8]) {
     let (number, mut lent) = calls::load(b, room, &[1; 450], &[2; 1024 * 200], &[3; 4 * 128 * 200]);
     let Ok(scene) = Scene::new(room, |_| true) else { return assert!(number != 0) };
     for object in 0..=scene.objects.len() as u32 + 1 {

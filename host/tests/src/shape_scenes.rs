@@ -1,8 +1,8 @@
 //! Scenes with deliberate bodies (shapes.rs): each in one strip of a background and of an object's image, in rooms that are good but for it, so that
 //! the call's number is the body's.
 
-use crate::bench::{Bench, Place};
 use crate::calls::{self, Turn};
+use crate::comparison::{Comparison, Place};
 use crate::rng::Rng;
 use crate::rooms::{self, Plan};
 use crate::shapes::{shapes, Shape};
@@ -16,12 +16,12 @@ fn put(r: &mut Rng, smap: Option<&mut Node>, shape: Shape) {
 }
 
 /// Loads the room: its number, and session, pixels and masks afterwards.
-fn load(b: &mut Bench, plan: &Plan, room: &[u8]) -> (u32, [Vec<u8>; 3]) {
+fn load(b: &mut Comparison, plan: &Plan, room: &[u8]) -> (u32, [Vec<u8>; 3]) {
     let (w, h, n) = (plan.w, plan.h, plan.n);
     calls::load(b, room, &[1; 450], &vec![2; w * h], &vec![3; n * (w / 8) * h])
 }
 
-fn in_background(b: &mut Bench, r: &mut Rng, shape: Shape) {
+fn in_background(b: &mut Comparison, r: &mut Rng, shape: Shape) {
     let (w, h, n) = (8 * r.range(1, 3), shape.height(r), r.below(3));
     let mut plan = rooms::room_of(r, w, h, n);
     put(r, plan.root.find(&[b"RMIM", b"IM00", b"SMAP"]), shape);
@@ -43,7 +43,7 @@ fn with_image(r: &mut Rng, shape: Shape) -> Plan {
 }
 
 /// The draw must give the image's number, and a take-back the load's surfaces, or 13 where the draw was refused.
-fn in_image(b: &mut Bench, r: &mut Rng, shape: Shape) {
+fn in_image(b: &mut Comparison, r: &mut Rng, shape: Shape) {
     let plan = with_image(r, shape);
     let room = plan.root.write();
     let (number, lent) = load(b, &plan, &room);
@@ -57,7 +57,7 @@ fn in_image(b: &mut Bench, r: &mut Rng, shape: Shape) {
     calls::turn(b, Turn::TakeBack, &room, &lent);
 }
 
-pub fn every_shape(b: &mut Bench, r: &mut Rng) {
+pub fn every_shape(b: &mut Comparison, r: &mut Rng) {
     for shape in shapes() {
         in_background(b, r, shape);
         in_image(b, r, shape);

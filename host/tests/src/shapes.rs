@@ -1,5 +1,5 @@
 //! Deliberate bodies at the edges of the rules for raw strips and runs, and the number that each must give. The scenes read every one of them in
-//! a background and in an object's image, and a run of the tests that hasn't fails (bench.rs).
+//! a background and in an object's image, and a run of the tests that hasn't fails (comparison.rs).
 
 use crate::rng::Rng;
 use crate::strips::{put_operations, STARTS};

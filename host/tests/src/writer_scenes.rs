@@ -1,7 +1,7 @@
 //! Scenes with the writers: random pictures and planes, written, then read back by the load.
 
-use crate::bench::Bench;
 use crate::calls;
+use crate::comparison::Comparison;
 use crate::rng::{Rng, H, W};
 use crate::room_scenes::lent;
 use crate::rooms::sizes;
@@ -66,7 +66,7 @@ fn length(written: impl FnOnce(&mut [u8]) -> Result<usize, u32>) -> usize {
     written(&mut vec![0; 400_000]).unwrap_or(0)
 }
 
-pub fn pictures(b: &mut Bench, r: &mut Rng) {
+pub fn pictures(b: &mut Comparison, r: &mut Rng) {
     let (w, h) = sizes(r);
     let (wide, high) = (w as u32, h as u32);
     let pixels = structured(r, w * h, w);
@@ -97,7 +97,7 @@ fn lent_long(r: &mut Rng, need: usize) -> Vec<u8> {
     r.bytes(need + more)
 }
 
-pub fn planes(b: &mut Bench, r: &mut Rng) {
+pub fn planes(b: &mut Comparison, r: &mut Rng) {
     let (w, h) = if r.once_in(2) { sizes(r) } else { (8 * r.range(1, 3), r.pick(&[1, 2, 3, 126, 127, 128, 129, 130, 199, 200])) };
     let (wide, high) = (w as u32, h as u32);
     for _ in 0..8 {

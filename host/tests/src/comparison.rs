@@ -52,7 +52,7 @@ extern "C" fn fell(number: i32) {
     unsafe { _exit(1) }
 }
 
-pub struct Bench {
+pub struct Comparison {
     slots: Vec<Slot>,
     place: Rng,
     seed: u64,
@@ -67,12 +67,12 @@ pub struct Bench {
     differences: BTreeMap<String, u64>,
 }
 
-impl Bench {
-    pub fn new() -> Bench {
+impl Comparison {
+    pub fn new() -> Comparison {
         for number in [4, 7, 8, 11, 14] {
             unsafe { signal(number, fell) };
         }
-        Bench {
+        Comparison {
             slots: (0..4).map(|_| Slot::new()).collect(),
             place: Rng::new(0),
             seed: 0,
