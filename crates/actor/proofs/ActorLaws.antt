@@ -18,8 +18,9 @@ use Rattle.grid.proofs.Upd.{length-upd, getD-upd, upd-ext}
 use Rattle.grid.proofs.Box.{cell-lt}
 use Rattle.actor.specs.Hidden.{maskPlace, maskBit, hiddenAt, number, hides, answered}
 use Rattle.actor.specs.Corner.{covers, nth}
-use Rattle.actor.specs.Stamp.{inked, stamped, stampNumber, stampFrame}
-use Rattle.actor.proofs.SizeLaws.{both, stamp-accepted}
+use Rattle.actor.specs.Stamp.{blended, stamped, stampNumber, stampFrame}
+use Rattle.number.proofs.BoolLaws.{both}
+use Rattle.actor.proofs.SizeLaws.{stamp-accepted}
 use Rattle.actor.proofs.CornerLaws.{stands-covers, stands-nth}
 
 -- ---- which pixels a clip level hides
@@ -105,7 +106,7 @@ module _ (frame masks picture : List ℕ) (w h n width height clear : ℕ) (x y 
     abbrev new : ℕ
     new = getD after (q * w + p) 0
 
-    one-pixel : new ≡ inked masks w h n clear clip p q colour old
+    one-pixel : new ≡ blended masks w h n clear clip p q colour old
     unfolding stamped
     one-pixel =
         let room = stamp-accepted (length frame) (length masks) (length picture) w h n width height accepted .room in
@@ -115,7 +116,7 @@ module _ (frame masks picture : List ℕ) (w h n width height clear : ℕ) (x y 
 
     -- an opaque pixel inside the room is written exactly when it is not hidden
     pub opaque-pixel : (colour ≡ clear → ⊥) → new ≡ pick (hiddenAt masks w h n clip p q) old colour
-    unfolding inked
+    unfolding blended
     opaque-pixel e = one-pixel ∙ rw (ne-eqb colour clear e)
 
     -- demand 2's words: hidden where the clip level names a plane of the room and that plane's bit is set there, and shown where not
@@ -131,13 +132,13 @@ module _ (frame masks picture : List ℕ) (w h n width height clear : ℕ) (x y 
 
     -- a clear pixel is not written
     pub clear-pixel : colour ≡ clear → new ≡ old
-    unfolding inked
+    unfolding blended
     clear-pixel e = one-pixel ∙ rw (eq-eqb colour clear e)
 
 -- masks of one length that agree on the plane of the clip level leave the same frame
 module _ (frame a b picture : List ℕ) (w h n width height clear : ℕ) (x y : ℤ) (clip : ℕ) (long : length a ≡ length b) (same : SamePlane w h clip a b) where
   pub one-plane-frame : stampFrame frame a picture w h n width height clear x y clip ≡ stampFrame frame b picture w h n width height clear x y clip
-  unfolding inked stamped
+  unfolding blended stamped
   one-plane-frame =
       by-cases (ℕ-discrete (stampNumber (length frame) (length a) (length picture) w h n width height) 0)
       (λ e. accepted-stamps frame a picture w h n width height clear x y clip e
@@ -149,7 +150,7 @@ module _ (frame a b picture : List ℕ) (w h n width height clear : ℕ) (x y : 
       number-same = rw long
 
       within-rows : (i o : ℕ) (t : Bool) (on : Bool) (v : ℕ) → w % 8 ≡ 0 → 0 < w → ltb (i / w) h ≡ t
-          → pick (t && on) (inked a w h n clear clip (i % w) (i / w) v o) o ≡ pick (t && on) (inked b w h n clear clip (i % w) (i / w) v o) o
+          → pick (t && on) (blended a w h n clear clip (i % w) (i / w) v o) o ≡ pick (t && on) (blended b w h n clear clip (i % w) (i / w) v o) o
       within-rows i o true on v whole some e = rw (one-plane w h n clip (i % w) (i / w) a b whole (mod-lt i some) (ltb-true _ _ e) same)
       within-rows i o false on v whole some e = refl
 

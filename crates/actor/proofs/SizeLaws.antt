@@ -1,19 +1,15 @@
 -- What the tests of a call leave known where they hold. Assumes nothing.
 use mathlib.Core.Path.{_≡_, refl, ap, _∙_}
-use mathlib.Core.Bool.{Bool, true, false, _&&_, false≢true}
+use mathlib.Core.Bool.{Bool, true, false, _&&_}
 use Prim.Native.Nat.{ℕ, suc, _*_, _/_, _%_, _≤_, _<_}
 use native.Mathlib.Nat.{mul-comm, mul-assoc}
 use native.Mathlib.Omega.{arith}
 use borrow.Author.Tests.{leb-true, ltb-true, eqb-true}
 use lib.Dec.{leb}
+use Rattle.number.proofs.BoolLaws.{both}
 use Rattle.actor.specs.Sizes.{unless, sizesFit, pictureFits, maskBytes, buffersFit, Planes}
 use Rattle.actor.specs.Hidden.{hiddenNumber}
 use Rattle.actor.specs.Stamp.{stampNumber, Buffers}
-
--- both tests hold
-pub both : (a b : Bool) → (a && b) ≡ true → (a ≡ true) × (b ≡ true)
-both true b e = (refl, e)
-both false b e = absurd (false≢true e)
 
 -- two tests that are told apart from their answers
 pub both-are : (a b p q t : Bool) → a ≡ p → b ≡ q → (a && b) ≡ t → (p && q) ≡ t

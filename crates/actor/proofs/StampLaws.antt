@@ -15,7 +15,7 @@ use Rattle.grid.specs.Grid.{pick, upd, within, boxed}
 use Rattle.number.specs.Number.{ahead, behind}
 use Rattle.actor.specs.Corner.{covers, nth, InFrame}
 use Rattle.actor.specs.declared.corner.Span.{Span}
-use Rattle.actor.specs.Stamp.{inked, stamped, stampBox}
+use Rattle.actor.specs.Stamp.{blended, stamped, stampBox}
 use Rattle.grid.proofs.Upd.{upd-ext}
 use Rattle.grid.proofs.Box.{within-yes, within-lo, within-hi, within-cases}
 use Rattle.actor.proofs.CornerLaws.{covers-in, covers-lo, covers-hi, nth-is}
@@ -40,7 +40,7 @@ module _ (masks picture : List ℕ) (w h n width height clear clip : ℕ) (x y :
   where
     stamp-value : (p q o : ℕ) → ahead x ≤ p → ahead y ≤ q
         → stampBox masks picture w h n width clear clip across down (p - across .start) (q - down .start) o
-        ≡ inked masks w h n clear clip p q (getD picture (nth y q * width + nth x p) 0) o
+        ≡ blended masks w h n clear clip p q (getD picture (nth y q * width + nth x p) 0) o
     unfolding stampBox
     stamp-value p q o hp hq =
         let a = is-across .start in

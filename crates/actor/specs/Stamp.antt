@@ -13,14 +13,14 @@ use Rattle.actor.specs.Corner.{covers, nth}
 use Rattle.actor.specs.declared.corner.Span.{Span}
 
 -- the picture's colour v at (x, y) of the frame, over o: o stays below a clear pixel and where the pixel is hidden
-unfoldable pub inked : List ℕ → (w h n clear clip x y v o : ℕ) → ℕ
-inked masks w h n clear clip x y v o = pick (eqb v clear || hiddenAt masks w h n clip x y) o v
+unfoldable pub blended : List ℕ → (w h n clear clip x y v o : ℕ) → ℕ
+blended masks w h n clear clip x y v o = pick (eqb v clear || hiddenAt masks w h n clip x y) o v
 
 -- what the stamp makes of the frame's byte i, which is o: the byte is pixel (i mod w, i / w), unless i is past the frame's rows
 unfoldable pub stamped : (masks picture : List ℕ) (w h n width height clear : ℕ) (x y : ℤ) (clip i o : ℕ) → ℕ
 stamped masks picture w h n width height clear x y clip i o =
     pick (ltb (i / w) h && (covers y height (i / w) && covers x width (i % w)))
-    (inked masks w h n clear clip (i % w) (i / w) (getD picture (nth y (i / w) * width + nth x (i % w)) 0) o)
+    (blended masks w h n clear clip (i % w) (i / w) (getD picture (nth y (i / w) * width + nth x (i % w)) 0) o)
     o
 
 -- the number of a call, by the lengths of its buffers: sizes, then lengths
@@ -39,7 +39,7 @@ stampFrame frame masks picture w h n width height clear x y clip =
 -- the pixel at column c and row r of the part of the picture that lies in the frame
 unfoldable pub stampBox : (masks picture : List ℕ) (w h n width clear clip : ℕ) (across down : Span) (c r o : ℕ) → ℕ
 stampBox masks picture w h n width clear clip across down c r o =
-    inked masks w h n clear clip (across .start + c) (down .start + r) (getD picture ((down .skip + r) * width + across .skip + c) 0) o
+    blended masks w h n clear clip (across .start + c) (down .start + r) (getD picture ((down .skip + r) * width + across .skip + c) 0) o
 
 -- what the tests of a call leave: buffers of these lengths hold the frame, its planes and the picture
 pub record Buffers (frame masks picture w h n width height : ℕ) : Type 0 where

@@ -7,10 +7,10 @@ ghost use Prim.Native.Nat.{_<_};
 ghost use lib.ListN.{length};
 ghost use Rattle.grid.specs.Grid.{upd, boxed, Inside};
 ghost use Rattle.actor.specs.Sizes.{Planes};
-ghost use Rattle.actor.specs.Stamp.{inked, stampBox, stamped, Buffers};
+ghost use Rattle.actor.specs.Stamp.{blended, stampBox, stamped, Buffers};
 
 // The picture's colour v at (x, y) of the frame, over the colour old; `clear` is the index that is never written.
-pub(crate) fn ink(
+pub(crate) fn blend(
     masks: &[u8],
     w: usize,
     h: usize,
@@ -24,7 +24,7 @@ pub(crate) fn ink(
 ) -> u8
     requires { ⌜ Planes (length (now masks)) w h n ⌝ }
     requires { ⌜ (x < w) × (y < h) ⌝ }
-    ensures { λ r. ⌜ r ≡ inked (now (masks .entry)) w h n clear clip x y v old ⌝ }
+    ensures { λ r. ⌜ r ≡ blended (now (masks .entry)) w h n clear clip x y v old ⌝ }
 {
     if v == clear {
         return old;
@@ -67,7 +67,7 @@ pub(crate) fn stamp_box(
         while c < across.count {
             let x = across.start + c;
             let v = picture[from + c];
-            frame[at + c] = ink(masks, w, h, n, clear, clip, x, y, v, frame[at + c]);
+            frame[at + c] = blend(masks, w, h, n, clear, clip, x, y, v, frame[at + c]);
             c += 1;
         }
         r += 1;

@@ -1,4 +1,4 @@
--- Laws of a cursor: the bits left are the same whatever of them is in hand, and bits that are handed out come from their front.
+-- Laws of a cursor: the bits left are the same whatever of them is held, and bits that are handed out come from their front.
 use mathlib.Core.Path.{_≡_, refl, sym, ap, _∙_, subst}
 use mathlib.Core.Bool.{Bool}
 use mathlib.Core.List.{List, [], _∷_, _++_, append-assoc}
@@ -62,47 +62,47 @@ drop-bytes (suc a) (b ∷ s) =
 
 -- ---- bits that are handed out
 
--- the low n bits in hand
-pub hands-low : (c : Cursor) (n : ℕ) → n ≤ c .have → Hands n (c .hand % 2 ^ n) c (record { at = c .at; have = c .have - n; hand = c .hand / 2 ^ n })
+-- the low n bits held
+pub hands-low : (c : Cursor) (n : ℕ) → n ≤ c .bits → Hands n (c .hold % 2 ^ n) c (record { at = c .at; bits = c .bits - n; hold = c .hold / 2 ^ n })
 unfolding rest
 hands-low c n le =
-    let back : c .have ≡ c .have - n + n = omega arith in
+    let back : c .bits ≡ c .bits - n + n = omega arith in
     record {
       fewer = sym back;
       still = refl;
-      front = λ s. pull-low n (c .have) (c .hand) (bitsOf (drop (c .at) s)) le;
+      front = λ s. pull-low n (c .bits) (c .hold) (bitsOf (drop (c .at) s)) le;
       held = λ s held. record {
         few = omega (arith, held .few);
-        low = shr-lt (c .have - n) n (subst (λ (k : ℕ). c .hand < 2 ^ k) back (held .low));
+        low = shr-lt (c .bits - n) n (subst (λ (k : ℕ). c .hold < 2 ^ k) back (held .low));
         inside = held .inside;
       };
     }
 
-pub shows-low : (c : Cursor) (n : ℕ) → n ≤ c .have → Shows n (c .hand % 2 ^ n) c
+pub shows-low : (c : Cursor) (n : ℕ) → n ≤ c .bits → Shows n (c .hold % 2 ^ n) c
 unfolding rest
-shows-low c n le = λ s. (_, pull-low n (c .have) (c .hand) (bitsOf (drop (c .at) s)) le)
+shows-low c n le = λ s. (_, pull-low n (c .bits) (c .hold) (bitsOf (drop (c .at) s)) le)
 
 module _ (n v : ℕ) (c d : Cursor) (h : Hands n v c d) where
-  enough : n ≤ c .have
+  enough : n ≤ c .bits
   enough = omega (arith, h .fewer)
 
-  -- the same bits, found in hand
-  same-front : (s : List ℕ) → got v (rest s d) ≡ got (c .hand % 2 ^ n) (lowBits (c .have - n) (c .hand / 2 ^ n) ++ bitsOf (drop (c .at) s))
+  -- the same bits, found in the bit buffer
+  same-front : (s : List ℕ) → got v (rest s d) ≡ got (c .hold % 2 ^ n) (lowBits (c .bits - n) (c .hold / 2 ^ n) ++ bitsOf (drop (c .at) s))
   unfolding rest
-  same-front s = sym (h .front s) ∙ pull-low n (c .have) (c .hand) (bitsOf (drop (c .at) s)) enough
+  same-front s = sym (h .front s) ∙ pull-low n (c .bits) (c .hold) (bitsOf (drop (c .at) s)) enough
 
-  pub hands-zeros : c .hand % 2 ^ n ≡ 0 → Hands n 0 c d
+  pub hands-zeros : c .hold % 2 ^ n ≡ 0 → Hands n 0 c d
   hands-zeros z = subst (λ (x : ℕ). Hands n x c d) (got-value (same-front []) ∙ z) h
 
-  pub hands-one : n < c .have → c .hand / 2 ^ n % 2 ≡ 1 → (s : List ℕ) → One (rest s d)
+  pub hands-one : n < c .bits → c .hold / 2 ^ n % 2 ≡ 1 → (s : List ℕ) → One (rest s d)
   unfolding lowBits
   hands-one more one s =
-      let k : c .have - n ≡ suc (c .have - n - 1) = omega arith in
+      let k : c .bits - n ≡ suc (c .bits - n - 1) = omega arith in
       let t = bitsOf (drop (c .at) s) in (
         _,
         got-tail (same-front s)
-            ∙ ap (λ (j : ℕ). lowBits j (c .hand / 2 ^ n) ++ t) k
-            ∙ ap (λ (x : ℕ). eqb x 1 ∷ (lowBits (c .have - n - 1) (c .hand / 2 ^ n / 2) ++ t)) one,
+            ∙ ap (λ (j : ℕ). lowBits j (c .hold / 2 ^ n) ++ t) k
+            ∙ ap (λ (x : ℕ). eqb x 1 ∷ (lowBits (c .bits - n - 1) (c .hold / 2 ^ n / 2) ++ t)) one,
       )
 
 -- n bits are a number of n bits
@@ -121,43 +121,43 @@ hands-shows k n v u x c b d h g seen s =
     p .1 ∙ ap (got x) after
 
 -- a full cursor that holds fewer than 56 bits holds all that are left
-pub all-in-hand : (s : List ℕ) (c : Cursor) → Full s c → c .have < 56 → length (rest s c) ≡ c .have
+pub all-held : (s : List ℕ) (c : Cursor) → Full s c → c .bits < 56 → length (rest s c) ≡ c .bits
 unfolding rest bitsOf
-all-in-hand s c full few =
-    ap (λ (l : List ℕ). length (lowBits (c .have) (c .hand) ++ bitsOf l)) (drop-of-length-le s (full few))
-    ∙ length-append (lowBits (c .have) (c .hand)) []
-    ∙ ap (λ (k : ℕ). k + 0) (length-low (c .have) (c .hand))
-    ∙ add-zero (c .have)
+all-held s c full few =
+    ap (λ (l : List ℕ). length (lowBits (c .bits) (c .hold) ++ bitsOf l)) (drop-of-length-le s (full few))
+    ∙ length-append (lowBits (c .bits) (c .hold)) []
+    ∙ ap (λ (k : ℕ). k + 0) (length-low (c .bits) (c .hold))
+    ∙ add-zero (c .bits)
 
 pub size-of : (n : ℕ) → n ≤ 63 → 1 * 2 ^ n % 2 ^ 64 ≡ 2 ^ n
 size-of n le = simp one-mul (mod-eq-of-lt (lt-of-le-of-lt (pow-mono le) (lit< tt)))
 
--- ---- m bits more in hand
+-- ---- m bits more held
 
-module _ (s : List ℕ) (c : Cursor) (held : Held s c) (at m v : ℕ) (few : c .have + m ≤ 63) (low : v < 2 ^ m) (inside : at ≤ length s) where
-  pub shift-exact : v * 2 ^ c .have % 2 ^ 64 ≡ v * 2 ^ c .have
-  shift-exact = shl-exact m (c .have) 64 low (omega arith)
+module _ (s : List ℕ) (c : Cursor) (held : Held s c) (at m v : ℕ) (few : c .bits + m ≤ 63) (low : v < 2 ^ m) (inside : at ≤ length s) where
+  pub shift-exact : v * 2 ^ c .bits % 2 ^ 64 ≡ v * 2 ^ c .bits
+  shift-exact = shl-exact m (c .bits) 64 low (omega arith)
 
-  whole : c .hand + v * 2 ^ c .have < 2 ^ (c .have + m)
+  whole : c .hold + v * 2 ^ c .bits < 2 ^ (c .bits + m)
   whole =
-      let top : v * 2 ^ c .have + c .hand < 2 ^ m * 2 ^ c .have = digits-lt low (held .low) in
-      let turn : m + c .have ≡ c .have + m = omega arith in
-      subst (λ (k : ℕ). c .hand + v * 2 ^ c .have < 2 ^ k) turn (rw pow-add (omega (arith, top)))
+      let top : v * 2 ^ c .bits + c .hold < 2 ^ m * 2 ^ c .bits = digits-lt low (held .low) in
+      let turn : m + c .bits ≡ c .bits + m = omega arith in
+      subst (λ (k : ℕ). c .hold + v * 2 ^ c .bits < 2 ^ k) turn (rw pow-add (omega (arith, top)))
 
-  pub sum-fits : c .hand + v * 2 ^ c .have < 2 ^ 64
-  sum-fits = let top : 2 ^ (c .have + m) ≤ 2 ^ 63 = pow-mono few in omega (arith, whole)
+  pub sum-fits : c .hold + v * 2 ^ c .bits < 2 ^ 64
+  sum-fits = let top : 2 ^ (c .bits + m) ≤ 2 ^ 63 = pow-mono few in omega (arith, whole)
 
   abbrev more : Cursor
-  more = record { at = at; have = c .have + m; hand = c .hand + v * 2 ^ c .have }
+  more = record { at = at; bits = c .bits + m; hold = c .hold + v * 2 ^ c .bits }
 
   more-rest : bitsOf (drop (c .at) s) ≡ lowBits m v ++ bitsOf (drop at s) → rest s more ≡ rest s c
   unfolding rest
-  more-rest e = sym (join (c .have) m (c .hand) v (bitsOf (drop at s)) (bitsOf (drop (c .at) s)) (held .low) e)
+  more-rest e = sym (join (c .bits) m (c .hold) v (bitsOf (drop at s)) (bitsOf (drop (c .at) s)) (held .low) e)
 
   -- the bits of the bytes between
   pub more-fetched : c .at ≤ at → m ≡ 8 * (at - c .at) → bitsOf (drop (c .at) s) ≡ lowBits m v ++ bitsOf (drop at s) → Fetches s c more
   more-fetched on eight e =
-      record { on = on; eight = ap (λ (k : ℕ). c .have + k) eight; same = more-rest e; held = record { few = few; low = whole; inside = inside } }
+      record { on = on; eight = ap (λ (k : ℕ). c .bits + k) eight; same = more-rest e; held = record { few = few; low = whole; inside = inside } }
 
 -- one fetch after another
 pub fetches-on : (s : List ℕ) (b c d : Cursor) → Fetches s b c → Fetches s c d → Fetches s b d
@@ -170,9 +170,9 @@ fetches-on s b c d f g =
     }
 
 -- n of eight bytes more
-pub bunch-front : (s : List ℕ) (at n : ℕ) → at + 8 ≤ length s → n ≤ 8 → ((i : ℕ) → Fits w8 (getD s i 0))
+pub eight-front : (s : List ℕ) (at n : ℕ) → at + 8 ≤ length s → n ≤ 8 → ((i : ℕ) → Fits w8 (getD s i 0))
     → bitsOf (drop at s) ≡ lowBits (8 * n) ((wordAt s at + wordAt s (at + 4) * 4294967296) % 2 ^ (8 * n)) ++ bitsOf (drop (at + n) s)
-bunch-front s at n h few byte =
+eight-front s at n h few byte =
     let all = wordAt s at + wordAt s (at + 4) * 4294967296 in
     let after = bitsOf (drop (at + 8) s) in
     let size : 64 ≡ 8 * n + (64 - 8 * n) = omega arith in

@@ -14,25 +14,25 @@ abbrev pub body : List ℕ
 body = 0x1C ∷ 0x05 ∷ 0xB6 ∷ 0x97 ∷ 0x00 ∷ 0x00 ∷ 0x01 ∷ 0x02 ∷ 0x03 ∷ 0x04 ∷ 0x05 ∷ 0x06 ∷ []
 
 abbrev pub first : Cursor
-first = record { at = 2; have = 0; hand = 0 }
+first = record { at = 2; bits = 0; hold = 0 }
 
--- B6 97 00 00 01 02 03 in hand
+-- B6 97 00 00 01 02 03 held
 abbrev pub seven : Cursor
-seven = record { at = 9; have = 56; hand = 0x030201000097B6 }
+seven = record { at = 9; bits = 56; hold = 0x030201000097B6 }
 
 abbrev pub without-B6 : Cursor
-without-B6 = record { at = 9; have = 48; hand = 0x030201000097 }
+without-B6 = record { at = 9; bits = 48; hold = 0x030201000097 }
 
--- 97 00 00 01 02 03 04 in hand
+-- 97 00 00 01 02 03 04 held
 abbrev pub one-more : Cursor
-one-more = record { at = 10; have = 56; hand = 0x04030201000097 }
+one-more = record { at = 10; bits = 56; hold = 0x04030201000097 }
 
 -- five bits of 97 are handed out, and then the other three
 abbrev pub within-97 : Cursor
-within-97 = record { at = 10; have = 51; hand = 0x201810080004 }
+within-97 = record { at = 10; bits = 51; hold = 0x201810080004 }
 
 abbrev pub without-97 : Cursor
-without-97 = record { at = 10; have = 48; hand = 0x040302010000 }
+without-97 = record { at = 10; bits = 48; hold = 0x040302010000 }
 
 starts-first : Starts 2 first
 unfolding rest lowBits
@@ -59,6 +59,6 @@ abbrev pub handed-out : List Bool
 handed-out =
     false ∷ true ∷ true ∷ false ∷ true ∷ true ∷ false ∷ true ∷ true ∷ true ∷ true ∷ false ∷ true ∷ false ∷ false ∷ true ∷ []
 
-pub read-in-bunches : Reads body 2 handed-out without-97
+pub read-with-refills : Reads body 2 handed-out without-97
 unfolding lowBits
-read-in-bunches = hands (hands (fetches (hands (fetches (starts starts-first) fetches-seven) hands-B6) fetches-one) hands-five) hands-three
+read-with-refills = hands (hands (fetches (hands (fetches (starts starts-first) fetches-seven) hands-B6) fetches-one) hands-five) hands-three

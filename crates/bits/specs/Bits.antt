@@ -40,16 +40,16 @@ pull (suc n) (b ∷ l) = below b (pull n l)
 abbrev pub wordAt : List ℕ → ℕ → ℕ
 wordAt s at = getD s at 0 + (getD s (at + 1) 0 + (getD s (at + 2) 0 + getD s (at + 3) 0 * 256) * 256) * 256
 
--- the bits that a cursor has not handed out: those in hand, then those of the bytes not fetched
+-- the bits that a cursor has not handed out: those held, then those of the bytes not fetched
 unfoldable pub rest : List ℕ → Cursor → List Bool
-rest s c = lowBits (c .have) (c .hand) ++ bitsOf (drop (c .at) s)
+rest s c = lowBits (c .bits) (c .hold) ++ bitsOf (drop (c .at) s)
 
--- a cursor over the body s, as the reader makes it: nothing above the bits in hand
+-- a cursor over the body s, as the reader makes it: nothing above the bits held
 pub record Held (s : List ℕ) (c : Cursor) : Type 0 where
-  pub few : c .have ≤ 63
-  pub low : c .hand < 2 ^ c .have
+  pub few : c .bits ≤ 63
+  pub low : c .hold < 2 ^ c .bits
   pub inside : c .at ≤ length s
 
--- at least 56 bits are in hand, or all that are left
+-- at least 56 bits are held, or all that are left
 abbrev pub Full : List ℕ → Cursor → Type 0
-Full s c = c .have < 56 → length s ≤ c .at
+Full s c = c .bits < 56 → length s ≤ c .at

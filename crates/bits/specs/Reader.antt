@@ -11,20 +11,20 @@ use Rattle.bits.specs.Bits.{lowBits, bitsOf, got, pull, rest, Held}
 -- c stands before the byte `from`: nothing is fetched
 pub record Starts (from : ℕ) (c : Cursor) : Type 0 where
   pub place : c .at ≡ from
-  pub none : c .have ≡ 0
+  pub none : c .bits ≡ 0
   pub all : (s : List ℕ) → rest s c ≡ bitsOf (drop from s)
   pub held : (s : List ℕ) → from ≤ length s → Held s c
 
--- d is c with more bytes of the body s fetched, each once: eight bits more in hand for each byte passed, and the same bits not handed out
+-- d is c with more bytes of the body s fetched, each once: eight bits more held for each byte passed, and the same bits not handed out
 pub record Fetches (s : List ℕ) (c d : Cursor) : Type 0 where
   pub on : c .at ≤ d .at
-  pub eight : d .have ≡ c .have + 8 * (d .at - c .at)
+  pub eight : d .bits ≡ c .bits + 8 * (d .at - c .at)
   pub same : rest s d ≡ rest s c
   pub held : Held s d
 
 -- c hands out n bits, the number v, and d comes behind them: the n-bit number at the head of what isn't handed out. No byte is fetched
 pub record Hands (n v : ℕ) (c d : Cursor) : Type 0 where
-  pub fewer : d .have + n ≡ c .have
+  pub fewer : d .bits + n ≡ c .bits
   pub still : d .at ≡ c .at
   pub front : (s : List ℕ) → pull n (rest s c) ≡ got v (rest s d)
   pub held : (s : List ℕ) → Held s c → Held s d

@@ -1,4 +1,4 @@
-// The bits of a strip body, read from bit 0 of each byte up (document 01, "Strips of pixels") and fetched in bunches (change request 2): a cursor
+// The bits of a strip body, read from bit 0 of each byte up (document 01, "Strips of pixels") and fetched many at a time (change request 2): a cursor
 // by value, whose methods answer with the bits and the cursor behind them. Its fields are private, so that bits are read in no other way.
 ghost use mathlib.Core.Path.{_≡_};
 ghost use mathlib.Core.Bool.{true, false};
@@ -8,16 +8,16 @@ ghost use lib.ListN.{length};
 ghost use Rattle.bits.specs.Bits.{Held, rest, Full, wordAt};
 ghost use Rattle.bits.specs.Reader.{Starts, Fetches, Hands, Shows, One};
 
-// A place among the bits of a body: `have` bits in hand, lowest first, and the bytes from `at` on not yet fetched.
+// A place among the bits of a body: the bit buffer `hold`, its number of bits, lowest first, and the bytes from `at` on not yet fetched.
 pub struct Cursor {
     at: usize,
-    have: u32,
-    hand: u64,
+    bits: u32,
+    hold: u64,
 }
 
 // Bits that were handed out, as a number, low bit first, and the cursor behind them.
 pub struct Taken {
-    pub bits: u64,
+    pub value: u64,
     pub next: Cursor,
 }
 
@@ -33,40 +33,40 @@ impl Cursor {
     {
         Cursor {
             at: at,
-            have: 0,
-            hand: 0,
+            bits: 0,
+            hold: 0,
         }
     }
 
-    // Whether n bits are in hand.
+    // Whether n bits are held.
     pub fn holds(self, n: u32) -> bool
-        ensures { λ r. ⌜ (r ≡ true → n ≤ self .have) × (r ≡ false → self .have < n) ⌝ }
+        ensures { λ r. ⌜ (r ≡ true → n ≤ self .bits) × (r ≡ false → self .bits < n) ⌝ }
     {
-        n <= self.have
+        n <= self.bits
     }
 
-    // The next n bits, which are in hand.
+    // The next n bits, which are held.
     pub fn take(self, n: u32) -> Taken
-        requires { ⌜ (n ≤ self .have) × (self .have ≤ 63) ⌝ }
-        ensures { λ r. ⌜ Hands n (r .bits) self (r .next) ⌝ }
+        requires { ⌜ (n ≤ self .bits) × (self .bits ≤ 63) ⌝ }
+        ensures { λ r. ⌜ Hands n (r .value) self (r .next) ⌝ }
     {
         let size: u64 = 1 << n;
         Taken {
-            bits: self.hand % size,
+            value: self.hold % size,
             next: Cursor {
                 at: self.at,
-                have: self.have - n,
-                hand: self.hand >> n,
+                bits: self.bits - n,
+                hold: self.hold >> n,
             },
         }
     }
 
-    // The 0 bits at the front of the next eight, which are in hand.
+    // The 0 bits at the front of the next eight, which are held.
     pub fn zeros(self) -> Zeros
-        requires { ⌜ (8 ≤ self .have) × (self .have ≤ 63) ⌝ }
+        requires { ⌜ (8 ≤ self .bits) × (self .bits ≤ 63) ⌝ }
         ensures { λ r. ⌜ (r .count ≤ 8) × Hands (r .count) 0 self (r .next) × (r .count < 8 → (s : List ℕ) → One (rest s (r .next))) ⌝ }
     {
-        let count = u64::trailing_zeros(self.hand % 256 + 256);
+        let count = u64::trailing_zeros(self.hold % 256 + 256);
         let next = self.take(count).next;
         Zeros {
             count: count,
@@ -74,70 +74,70 @@ impl Cursor {
         }
     }
 
-    // The next n bits, not handed out. Where fewer are in hand the answer says nothing. An operation looks at the bits of each of its outcomes and
+    // The next n bits, not handed out. Where fewer are held the answer says nothing. An operation peeks at the bits of each of its outcomes and
     // chooses among the values, which needs no branch (docs/DECISIONS.md, 26).
-    pub fn look(self, n: u32) -> u8
+    pub fn peek(self, n: u32) -> u8
         requires { ⌜ n ≤ 8 ⌝ }
-        ensures { λ r. ⌜ (n ≤ self .have → Shows n r self) ⌝ }
+        ensures { λ r. ⌜ (n ≤ self .bits → Shows n r self) ⌝ }
     {
         let size: u64 = 1 << n;
-        (self.hand % size) as u8
+        (self.hold % size) as u8
     }
 
-    // The same bits, one byte more of them in hand.
-    fn byte(self, body: &[u8]) -> Cursor
-        requires { ⌜ Held (now body) self × (self .have < 56) × (self .at < length (now body)) ⌝ }
+    // The same bits, one byte more of them held.
+    fn refill_byte(self, body: &[u8]) -> Cursor
+        requires { ⌜ Held (now body) self × (self .bits < 56) × (self .at < length (now body)) ⌝ }
         ensures { λ r. ⌜ Fetches (now (body .entry)) self r × (r .at ≡ self .at + 1) ⌝ }
     {
         let at = self.at;
         Cursor {
             at: at + 1,
-            have: self.have + 8,
-            hand: self.hand + ((body[at] as u64) << self.have),
+            bits: self.bits + 8,
+            hold: self.hold + ((body[at] as u64) << self.bits),
         }
     }
 
-    // The same bits, as many bytes more of them in hand as there are and as the hand has room for.
-    fn bytes(self, body: &[u8]) -> Cursor
+    // The same bits, as many bytes more of them held as there are and as the bit buffer has room for.
+    fn refill_bytes(self, body: &[u8]) -> Cursor
         requires { ⌜ Held (now body) self ⌝ }
         ensures { λ r. ⌜ Fetches (now (body .entry)) self r × Full (now (body .entry)) r ⌝ }
     {
         let mut cur = self;
         while cur.at < body.len() {
-            if 56 <= cur.have {
+            if 56 <= cur.bits {
                 return cur;
             }
-            cur = cur.byte(body);
+            cur = cur.refill_byte(body);
         }
         cur
     }
 
     // The same in one step, where eight bytes are there: at most seven of them are fetched.
-    fn bunch(self, body: &[u8]) -> Cursor
+    fn refill_word(self, body: &[u8]) -> Cursor
         requires { ⌜ Held (now body) self × (self .at + 8 ≤ length (now body)) ⌝ }
-        ensures { λ r. ⌜ Fetches (now (body .entry)) self r × (56 ≤ r .have) ⌝ }
+        ensures { λ r. ⌜ Fetches (now (body .entry)) self r × (56 ≤ r .bits) ⌝ }
     {
         let at = self.at;
-        let have = self.have;
-        let room = (63 - have) / 8;
+        let bits = self.bits;
+        let room = (63 - bits) / 8;
         let size: u64 = 1 << (8 * room);
         let taken = eight(body, at) % size;
         Cursor {
             at: at + room as usize,
-            have: have + 8 * room,
-            hand: self.hand + (taken << have),
+            bits: bits + 8 * room,
+            hold: self.hold + (taken << bits),
         }
     }
 
-    // The same bits, at least 56 of them in hand, or all that are left.
-    pub fn filled(self, body: &[u8]) -> Cursor
+    // The same bits, at least 56 of them held, or all that are left.
+    pub fn refill(self, body: &[u8]) -> Cursor
         requires { ⌜ Held (now body) self ⌝ }
         ensures { λ r. ⌜ Fetches (now (body .entry)) self r × Full (now (body .entry)) r ⌝ }
     {
         if 8 <= body.len() - self.at {
-            return self.bunch(body);
+            return self.refill_word(body);
         }
-        self.bytes(body)
+        self.refill_bytes(body)
     }
 }
 

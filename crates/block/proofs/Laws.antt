@@ -1,13 +1,14 @@
 -- Laws of the block tree: what a walk over a list of blocks gives at a block, and where no block stands.
 use mathlib.Core.Path.{_≡_, refl, ap, sym, _∙_, subst, subst⁻¹}
 use mathlib.Core.List.{List, [], _∷_}
-use mathlib.Core.Bool.{Bool, true, false, _&&_, cond, true≢false}
+use mathlib.Core.Bool.{Bool, true, false, _&&_, cond, and-false}
 use Prim.Native.Nat.{ℕ, zero, suc, _+_, _-_, _≤_, _<_}
 use native.Mathlib.Omega.{arith}
 use native.Mathlib.Numerals.{sub-one}
 use lib.Dec.{leb, eqb}
 use lib.ListN.{getD, length}
 use borrow.Author.Tests.{leb-true, le-leb, lt-leb, ne-eqb, eq-eqb}
+use Rattle.number.proofs.BoolLaws.{and-left, and-right}
 use Rattle.number.specs.Number.{be32}
 use Rattle.block.specs.Tag.{container}
 use Rattle.block.specs.Tree.{blockEnd, walk, run, blockOk, listOk, tagged, nthTag, findTag, needTag, payload, Inside, wellFormed, eachHas, isAt}
@@ -17,19 +18,6 @@ use Rattle.block.specs.declared.Found.the-variants.{At, Missing}
 cond-pos : (b : Bool) (x : ℕ) → (cond b x 0 ≡ 0 → ⊥) → b ≡ true
 cond-pos true x h = refl
 cond-pos false x h = absurd (h refl)
-
-pub and-left : (a b : Bool) → (a && b) ≡ true → a ≡ true
-and-left true b h = refl
-and-left false b h = h
-
-pub and-right : (a b : Bool) → (a && b) ≡ true → b ≡ true
-and-right true b h = h
-and-right false b h = absurd (true≢false (sym h))
-
--- a test of three parts fails by any of them
-pub and-false : (a b : Bool) → b ≡ false → (a && b) ≡ false
-and-false true b h = h
-and-false false b h = refl
 
 module _ (s : List ℕ) (a e : ℕ) where
   -- a block has a header, and ends in its list
@@ -54,11 +42,11 @@ module _ (s : List ℕ) (a e : ℕ) where
   module _ (n : ℕ) (size : n ≡ be32 s (a + 4)) where
     pub end-small : n < 8 → 0 ≡ blockEnd s a e
     unfolding blockEnd
-    end-small h = rw (← size, lt-leb 8 n h, and-false (leb (a + 8) e) false refl)
+    end-small h = rw (← size, lt-leb 8 n h, and-false (leb (a + 8) e))
 
     pub end-past : a ≤ e → e - a < n → 0 ≡ blockEnd s a e
     unfolding blockEnd
-    end-past l h = rw (← size, lt-leb (a + n) e (omega arith), and-false (leb (a + 8) e && leb 8 n) false refl)
+    end-past l h = rw (← size, lt-leb (a + n) e (omega arith), and-false (leb (a + 8) e && leb 8 n))
 
     pub end-at : a ≤ e → 8 ≤ n → n ≤ e - a → a + n ≡ blockEnd s a e
     unfolding blockEnd

@@ -7,22 +7,20 @@ use native.Mathlib.Nat.{le-trans, mul-le-mul-right}
 use native.Mathlib.Omega.{arith}
 use borrow.Author.Tests.{lt-ltb, le-ltb, leb-true, eqb-true}
 use lib.ListN.{length, take, drop, length-append}
+use lib.Seq.{sets, length-sets}
 use lib.Dec.{leb, eqb}
+use Rattle.number.specs.Number.{be32Bytes}
 use Rattle.strip.specs.Picture.{over}
 use Rattle.blocks.specs.declared.Wrote.{Wrote}
 use Rattle.blocks.specs.declared.Wrote.the-variants.{Block, Refused}
 use Rattle.table.specs.Table.{tableEnd}
-use Rattle.blocks.specs.Block.{bigEndian, tableFrom, bodiesFrom, sizeOf, blockOf, bodyFor}
-use Rattle.blocks.specs.Put.{putAt}
+use Rattle.blocks.specs.Block.{tableFrom, bodiesFrom, sizeOf, blockOf, bodyFor}
 use Rattle.blocks.specs.Call.{sizesAllowed, sourceSize, blockOutcome, smapOutcome, planeOutcome, Answered}
-use Rattle.table.proofs.TableLaws.{and-left, and-right}
-use Rattle.blocks.proofs.PutLaws.{put-length, put-to, put-past}
+use Rattle.number.proofs.BoolLaws.{both}
+use Rattle.blocks.proofs.PutLaws.{put-to, put-past}
 use Rattle.blocks.proofs.FillLaws.{length-table}
 
 -- ---- sizes
-
-pub and-true : (a b : Bool) → (a && b) ≡ true → (a ≡ true) × (b ≡ true)
-and-true a b e = (and-left a b e, and-right a b e)
 
 pub record Sizes (w h : ℕ) : Type 0 where
   pub even : w % 8 ≡ 0
@@ -34,10 +32,10 @@ pub record Sizes (w h : ℕ) : Type 0 where
 pub sizes : (w h : ℕ) → sizesAllowed w h ≡ true → Sizes w h
 unfolding sizesAllowed
 sizes w h e =
-    let a = and-true (eqb (w % 8) 0) (leb 8 w && (leb w 1024 && (leb 1 h && leb h 200))) e in
-    let b = and-true (leb 8 w) (leb w 1024 && (leb 1 h && leb h 200)) (a .1) in
-    let c = and-true (leb w 1024) (leb 1 h && leb h 200) (b .1) in
-    let d = and-true (leb 1 h) (leb h 200) (c .1) in
+    let a = both (eqb (w % 8) 0) (leb 8 w && (leb w 1024 && (leb 1 h && leb h 200))) e in
+    let b = both (leb 8 w) (leb w 1024 && (leb 1 h && leb h 200)) (a .1) in
+    let c = both (leb w 1024) (leb 1 h && leb h 200) (b .1) in
+    let d = both (leb 1 h) (leb h 200) (c .1) in
     record {
       even = eqb-true (w % 8) 0 (a .0);
       wide = leb-true 8 w (b .0);
@@ -54,8 +52,8 @@ rows-few n h a b = le-trans (mul-le-mul-right n b) (omega arith)
 
 -- ---- a block
 
-pub length-big-endian : (v : ℕ) → length (bigEndian v) ≡ 4
-unfolding bigEndian
+pub length-big-endian : (v : ℕ) → length (be32Bytes v) ≡ 4
+unfolding be32Bytes
 length-big-endian v = refl
 
 pub length-block : (tag : ℕ) (mask : Bool) (n : ℕ) (f : ℕ → List ℕ) → length (blockOf tag mask n f) ≡ sizeOf mask n f
@@ -64,8 +62,8 @@ length-block tag mask n f =
     let s = tableEnd mask n + length (bodiesFrom f 0 n) in
     omega (
       arith,
-      length-append (bigEndian tag) (bigEndian s ++ (tableFrom mask f 0 n (tableEnd mask n) ++ bodiesFrom f 0 n)),
-      length-append (bigEndian s) (tableFrom mask f 0 n (tableEnd mask n) ++ bodiesFrom f 0 n),
+      length-append (be32Bytes tag) (be32Bytes s ++ (tableFrom mask f 0 n (tableEnd mask n) ++ bodiesFrom f 0 n)),
+      length-append (be32Bytes s) (tableFrom mask f 0 n (tableEnd mask n) ++ bodiesFrom f 0 n),
       length-append (tableFrom mask f 0 n (tableEnd mask n)) (bodiesFrom f 0 n),
       length-table mask f 0 n (tableEnd mask n),
       length-big-endian tag,
@@ -73,30 +71,30 @@ length-block tag mask n f =
     )
 
 module _ (tag : ℕ) (mask : Bool) (n : ℕ) (f : ℕ → List ℕ) (d : List ℕ) (size : ℕ) (same : size ≡ sizeOf mask n f) (room : 8 ≤ length d) where
-  pub block-done : (x e : List ℕ) → x ≡ putAt (putAt d 0 (bigEndian tag)) 4 (bigEndian size)
+  pub block-done : (x e : List ℕ) → x ≡ sets (sets d 0 (be32Bytes tag)) 4 (be32Bytes size)
       → e ≡ over (take 8 x ++ (tableFrom mask f 0 n (tableEnd mask n) ++ bodiesFrom f 0 n)) x
       → e ≡ over (blockOf tag mask n f) d
   unfolding over blockOf
   block-done x e g h =
-      let one = putAt d 0 (bigEndian tag) in
-      let two = putAt one 4 (bigEndian size) in
+      let one = sets d 0 (be32Bytes tag) in
+      let two = sets one 4 (be32Bytes size) in
       let lt = length-big-endian tag in
       let ls = length-big-endian size in
       let rest = tableFrom mask f 0 n (tableEnd mask n) ++ bodiesFrom f 0 n in
-      let h1 : 0 + length (bigEndian tag) ≤ length d = omega arith in
-      let l1 : length one ≡ length d = put-length d 0 (bigEndian tag) h1 in
-      let h2 : 4 + length (bigEndian size) ≤ length one = omega arith in
-      let front : take 8 x ≡ bigEndian tag ++ bigEndian size =
-      ap (take 8) g ∙ put-to one 4 (bigEndian size) h2 8 (omega arith) ∙ ap (λ (q : List ℕ). q ++ bigEndian size) (put-to d 0 (bigEndian tag) h1 4 (omega arith)) in
+      let h1 : 0 + length (be32Bytes tag) ≤ length d = omega arith in
+      let l1 : length one ≡ length d = length-sets d 0 (be32Bytes tag) in
+      let h2 : 4 + length (be32Bytes size) ≤ length one = omega arith in
+      let front : take 8 x ≡ be32Bytes tag ++ be32Bytes size =
+      ap (take 8) g ∙ put-to one 4 (be32Bytes size) h2 8 (omega arith) ∙ ap (λ (q : List ℕ). q ++ be32Bytes size) (put-to d 0 (be32Bytes tag) h1 4 (omega arith)) in
       let all : take 8 x ++ rest ≡ blockOf tag mask n f =
-      ap (λ (q : List ℕ). q ++ rest) front ∙ append-assoc (bigEndian tag) (bigEndian size) rest ∙ ap (λ (k : ℕ). bigEndian tag ++ (bigEndian k ++ rest)) same in
-      let big : 8 ≤ length (blockOf tag mask n f) = omega (arith, length-append (bigEndian tag) (bigEndian (sizeOf mask n f) ++ rest), length-append (bigEndian (sizeOf mask n f)) rest, length-big-endian (sizeOf mask n f)) in
+      ap (λ (q : List ℕ). q ++ rest) front ∙ append-assoc (be32Bytes tag) (be32Bytes size) rest ∙ ap (λ (k : ℕ). be32Bytes tag ++ (be32Bytes k ++ rest)) same in
+      let big : 8 ≤ length (blockOf tag mask n f) = omega (arith, length-append (be32Bytes tag) (be32Bytes (sizeOf mask n f) ++ rest), length-append (be32Bytes (sizeOf mask n f)) rest, length-big-endian (sizeOf mask n f)) in
       h
       ∙ ap (λ (q : List ℕ). q ++ drop (length q) x) all
       ∙ ap (λ (q : List ℕ). blockOf tag mask n f ++ q)
       (ap (drop (length (blockOf tag mask n f))) g
-      ∙ put-past one 4 (bigEndian size) h2 (length (blockOf tag mask n f)) (omega arith)
-      ∙ put-past d 0 (bigEndian tag) h1 (length (blockOf tag mask n f)) (omega arith))
+      ∙ put-past one 4 (be32Bytes size) h2 (length (blockOf tag mask n f)) (omega arith)
+      ∙ put-past d 0 (be32Bytes tag) h1 (length (blockOf tag mask n f)) (omega arith))
 
 -- ---- the answers
 

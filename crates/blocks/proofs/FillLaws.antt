@@ -6,13 +6,13 @@ use Prim.Native.Nat.{ℕ, zero, suc, _+_, _-_, _*_, _≤_, _<_, zero-le}
 use native.Mathlib.Nat.{le-refl, sub-zero}
 use native.Mathlib.Omega.{arith}
 use lib.ListN.{length, take, drop, length-append, length-drop}
-use lib.Seq.{drop-drop, length-take-le, take-add}
+use lib.Seq.{sets, drop-drop, length-sets, length-take-le, take-add}
+use Rattle.number.specs.Number.{le16Bytes, le32Bytes}
 use Rattle.strip.specs.Picture.{over}
 use Rattle.strip.proofs.PictureLaws.{over-of}
 use Rattle.table.specs.Table.{offsetSize, tableEnd}
 use Rattle.blocks.specs.Block.{offsetBytes, offsetOf, tableFrom, bodiesFrom}
-use Rattle.blocks.specs.Put.{putAt}
-use Rattle.blocks.proofs.PutLaws.{put-length, put-before, put-to, put-past, put-tail}
+use Rattle.blocks.proofs.PutLaws.{put-before, put-to, put-past, put-tail}
 
 pub offsets-less : (mask : Bool) (n s : ℕ) → s < n → offsetSize mask * s + offsetSize mask ≤ offsetSize mask * n
 offsets-less true n s h = omega arith
@@ -27,7 +27,7 @@ offsets-few true n h = omega arith
 offsets-few false n h = omega arith
 
 pub length-offset : (mask : Bool) (v : ℕ) → length (offsetBytes mask v) ≡ offsetSize mask
-unfolding offsetBytes
+unfolding offsetBytes le16Bytes le32Bytes
 length-offset true v = refl
 length-offset false v = refl
 
@@ -106,22 +106,22 @@ module _ (mask : Bool) (n : ℕ) (f : ℕ → List ℕ) (d out : List ℕ) (s at
   offset-room = omega (arith, w .spot, offsets-less mask n s lt)
 
   pub filling-more : (v : ℕ) → v ≡ offsetOf (f s) at
-      → Filling mask n f d (putAt (putAt out at (f s)) p (offsetBytes mask v)) (s + 1) (at + length (f s)) (p + offsetSize mask)
+      → Filling mask n f d (sets (sets out at (f s)) p (offsetBytes mask v)) (s + 1) (at + length (f s)) (p + offsetSize mask)
   unfolding b
   filling-more v e =
-      let one = putAt out at (f s) in
+      let one = sets out at (f s) in
       let x = offsetBytes mask v in
       let m = at - b in
       let far = w .far in
       let lx = length-offset mask v in
       let h1 : at + length (f s) ≤ length out = omega (arith, body-room) in
-      let l1 : length one ≡ length out = put-length out at (f s) h1 in
+      let l1 : length one ≡ length out = length-sets out at (f s) in
       let h2 : p + length x ≤ length one = omega (arith, offset-room) in
-      let two = putAt one p x in
-      let l2 : length two ≡ length one = put-length one p x h2 in
+      let two = sets one p x in
+      let l2 : length two ≡ length one = length-sets one p x in
       let to : p + offsetSize mask ≡ p + length x = omega arith in
       let ld : length (drop b out) ≡ length out - b = length-drop b out in
-      let tail : drop b two ≡ putAt (drop b out) m (f s) =
+      let tail : drop b two ≡ sets (drop b out) m (f s) =
       put-past one p x h2 b (omega (arith, offset-room)) ∙ put-tail out at (f s) h1 b m (omega arith) in
       let h3 : m + length (f s) ≤ length (drop b out) = omega arith in
       record {

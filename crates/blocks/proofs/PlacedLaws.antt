@@ -10,14 +10,14 @@ use borrow.Author.Tests.{eq-eqb, ne-eqb, le-leb, lt-ltb}
 use lib.ListN.{length, getD, take, drop, length-append}
 use lib.Seq.{getD-append-add, drop-at, take-at}
 use lib.Dec.{eqb}
-use Rattle.number.specs.Number.{be32, le16, le32}
+use Rattle.number.specs.Number.{be32, le16, le32, le16Bytes, le32Bytes, be32Bytes}
 use Rattle.table.specs.Table.{offsetSize, tableEnd, offsetAt, offsetRight, bodiless, offsetsRight, tableRight}
 use Rattle.table.specs.Body.{bodyEnd, bodyOf}
 use Rattle.table.specs.Test.{stripTest, leftmost, blockTest}
 use Rattle.table.specs.declared.Test.{Test}
 use Rattle.table.specs.declared.Test.the-variants.{Passed}
 use Rattle.table.proofs.TestLaws.{leftmost-none, leftmost-pass}
-use Rattle.blocks.specs.Block.{bigEndian, offsetBytes, offsetOf, tableFrom, bodiesFrom, sizeOf, blockOf}
+use Rattle.blocks.specs.Block.{offsetBytes, offsetOf, tableFrom, bodiesFrom, sizeOf, blockOf}
 use Rattle.blocks.proofs.FillLaws.{length-table, bodies-step}
 use Rattle.blocks.proofs.CallLaws.{length-block, length-big-endian}
 
@@ -39,10 +39,10 @@ four-bytes v h =
 first-at : (p q : List ℕ) (x : ℕ) → getD q 0 0 ≡ x → getD (p ++ q) (length p) 0 ≡ x
 first-at p q x e = ap (λ (k : ℕ). getD (p ++ q) k 0) (sym (add-zero (length p))) ∙ getD-append-add p q 0 0 ∙ e
 
-big-endian-back : (v : ℕ) (p r : List ℕ) → v < 2 ^ 32 → be32 (p ++ (bigEndian v ++ r)) (length p) ≡ v
-unfolding bigEndian
+big-endian-back : (v : ℕ) (p r : List ℕ) → v < 2 ^ 32 → be32 (p ++ (be32Bytes v ++ r)) (length p) ≡ v
+unfolding be32Bytes
 big-endian-back v p r h =
-    let q = bigEndian v ++ r in
+    let q = be32Bytes v ++ r in
     let a : getD (p ++ q) (length p) 0 ≡ v / 16777216 % 256 = first-at p q (v / 16777216 % 256) refl in
     let b : getD (p ++ q) (length p + 1) 0 ≡ v / 65536 % 256 = getD-append-add p q 1 0 in
     let c : getD (p ++ q) (length p + 2) 0 ≡ v / 256 % 256 = getD-append-add p q 2 0 in
@@ -55,7 +55,7 @@ most false = 2 ^ 32
 most true = 2 ^ 16
 
 offset-back : (mask : Bool) (v b k : ℕ) (p r : List ℕ) → v < most mask → length p ≡ b + 8 + offsetSize mask * k → offsetAt mask (p ++ (offsetBytes mask v ++ r)) b k ≡ v
-unfolding offsetAt offsetBytes
+unfolding offsetAt offsetBytes le16Bytes le32Bytes
 offset-back true v b k p r h e =
     let q = offsetBytes true v ++ r in
     let x : getD (p ++ q) (length p) 0 ≡ v % 256 = first-at p q (v % 256) refl in
@@ -128,15 +128,15 @@ pub record Placed (mask : Bool) (n : ℕ) (f : ℕ → List ℕ) (s : List ℕ) 
 
 module _ (tag : ℕ) (mask : Bool) (n : ℕ) (f : ℕ → List ℕ) (before after : List ℕ) (small : sizeOf mask n f < most mask) where
   -- the bytes of the room around the block's table and bodies
-  around : (rest : List ℕ) → before ++ ((bigEndian tag ++ (bigEndian (sizeOf mask n f) ++ rest)) ++ after) ≡ ((before ++ bigEndian tag) ++ bigEndian (sizeOf mask n f)) ++ (rest ++ after)
+  around : (rest : List ℕ) → before ++ ((be32Bytes tag ++ (be32Bytes (sizeOf mask n f) ++ rest)) ++ after) ≡ ((before ++ be32Bytes tag) ++ be32Bytes (sizeOf mask n f)) ++ (rest ++ after)
   around rest = simp append-assoc
 
-  front : length ((before ++ bigEndian tag) ++ bigEndian (sizeOf mask n f)) ≡ length before + 8
+  front : length ((before ++ be32Bytes tag) ++ be32Bytes (sizeOf mask n f)) ≡ length before + 8
   front =
       omega (
         arith,
-        length-append (before ++ bigEndian tag) (bigEndian (sizeOf mask n f)),
-        length-append before (bigEndian tag),
+        length-append (before ++ be32Bytes tag) (be32Bytes (sizeOf mask n f)),
+        length-append before (be32Bytes tag),
         length-big-endian tag,
         length-big-endian (sizeOf mask n f),
       )
@@ -150,7 +150,7 @@ module _ (tag : ℕ) (mask : Bool) (n : ℕ) (f : ℕ → List ℕ) (before afte
   place-offset k lt =
       let at = tableEnd mask n in
       let v = offsetOf (f k) (startOf mask n f k) in
-      let head = (before ++ bigEndian tag) ++ bigEndian (sizeOf mask n f) in
+      let head = (before ++ be32Bytes tag) ++ be32Bytes (sizeOf mask n f) in
       let done = tableFrom mask f 0 k at in
       let m = n - (k + 1) in
       let left = tableFrom mask f (k + 1) m (startOf mask n f k + length (f k)) in
@@ -172,7 +172,7 @@ module _ (tag : ℕ) (mask : Bool) (n : ℕ) (f : ℕ → List ℕ) (before afte
   place-body : (k : ℕ) → k < n → take (length (f k)) (drop (length before + startOf mask n f k) (before ++ (blockOf tag mask n f ++ after))) ≡ f k
   unfolding blockOf sizeOf
   place-body k lt =
-      let head = (before ++ bigEndian tag) ++ bigEndian (sizeOf mask n f) in
+      let head = (before ++ be32Bytes tag) ++ be32Bytes (sizeOf mask n f) in
       let table = tableFrom mask f 0 n (tableEnd mask n) in
       let done = bodiesFrom f 0 k in
       let left = bodiesFrom f (k + 1) (n - (k + 1)) in
@@ -199,16 +199,16 @@ module _ (tag : ℕ) (mask : Bool) (n : ℕ) (f : ℕ → List ℕ) (before afte
   pub tag-back : tag < 2 ^ 32 → be32 (before ++ (blockOf tag mask n f ++ after)) (length before) ≡ tag
   unfolding blockOf
   tag-back h =
-      let rest = bigEndian (sizeOf mask n f) ++ (tableFrom mask f 0 n (tableEnd mask n) ++ bodiesFrom f 0 n) in
-      ap (λ (q : List ℕ). be32 (before ++ q) (length before)) (append-assoc (bigEndian tag) rest after) ∙ big-endian-back tag before (rest ++ after) h
+      let rest = be32Bytes (sizeOf mask n f) ++ (tableFrom mask f 0 n (tableEnd mask n) ++ bodiesFrom f 0 n) in
+      ap (λ (q : List ℕ). be32 (before ++ q) (length before)) (append-assoc (be32Bytes tag) rest after) ∙ big-endian-back tag before (rest ++ after) h
 
   pub size-back : sizeOf mask n f < 2 ^ 32 → be32 (before ++ (blockOf tag mask n f ++ after)) (length before + 4) ≡ length (blockOf tag mask n f)
   unfolding blockOf
   size-back h =
       let rest = tableFrom mask f 0 n (tableEnd mask n) ++ bodiesFrom f 0 n in
-      let len : length (before ++ bigEndian tag) ≡ length before + 4 = length-append before (bigEndian tag) ∙ ap (λ (k : ℕ). length before + k) (length-big-endian tag) in
-      let whole : before ++ (blockOf tag mask n f ++ after) ≡ (before ++ bigEndian tag) ++ (bigEndian (sizeOf mask n f) ++ (rest ++ after)) = around rest ∙ append-assoc (before ++ bigEndian tag) (bigEndian (sizeOf mask n f)) (rest ++ after) in
-      ap₂ (λ (q : List ℕ) (i : ℕ). be32 q i) whole (sym len) ∙ big-endian-back (sizeOf mask n f) (before ++ bigEndian tag) (rest ++ after) h ∙ sym (length-block tag mask n f)
+      let len : length (before ++ be32Bytes tag) ≡ length before + 4 = length-append before (be32Bytes tag) ∙ ap (λ (k : ℕ). length before + k) (length-big-endian tag) in
+      let whole : before ++ (blockOf tag mask n f ++ after) ≡ (before ++ be32Bytes tag) ++ (be32Bytes (sizeOf mask n f) ++ (rest ++ after)) = around rest ∙ append-assoc (before ++ be32Bytes tag) (be32Bytes (sizeOf mask n f)) (rest ++ after) in
+      ap₂ (λ (q : List ℕ) (i : ℕ). be32 q i) whole (sym len) ∙ big-endian-back (sizeOf mask n f) (before ++ be32Bytes tag) (rest ++ after) h ∙ sym (length-block tag mask n f)
 
 -- ---- what the reader's definitions find of a block in its place
 

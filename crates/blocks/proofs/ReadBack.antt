@@ -10,6 +10,7 @@ use native.Mathlib.Omega.{arith}
 use lib.ListN.{length, getD, drop}
 use lib.Dec.{leb, ltb, lit<}
 use borrow.Author.Tests.{leb-true}
+use Rattle.number.proofs.BoolLaws.{both}
 use Rattle.number.specs.Number.{be32}
 use Rattle.strip.specs.Strip.{pixels}
 use Rattle.strip.specs.Picture.{over, picture}
@@ -21,7 +22,7 @@ use Rattle.writer.proofs.PixelLaws.{Bytes}
 use Rattle.blocks.specs.Block.{pixelsOfStrip, rowsOfStrip, bodyFor, blockOf, smapTag, planeTag, smapBlock, planeBlock}
 use Rattle.blocks.specs.declared.Wrote.the-variants.{Block, Refused}
 use Rattle.blocks.specs.Call.{refused, written, sizesAllowed, sourceSize, blockOutcome, smapOutcome, planeOutcome, answerOf, targetAfter}
-use Rattle.blocks.proofs.CallLaws.{Sizes, sizes, and-true, length-block}
+use Rattle.blocks.proofs.CallLaws.{Sizes, sizes, length-block}
 use Rattle.blocks.proofs.PlacedLaws.{Placed, placed, tag-back, size-back, table-is, block-passes}
 use Rattle.blocks.proofs.BackLaws.{pixel-at, row-at, size-few, some-body, strip-is, rows-are}
 
@@ -172,8 +173,8 @@ module _ (w h : ℕ) (rows d e : List ℕ) (len : ℕ) where
         go : (p : Bool) → (sizesAllowed w h && (leb 1 k && leb k 4)) ≡ p → Block len ≡ answerOf (cond p (blockOutcome (planeTag k) true (w / 8) h rows (length d)) (refused 3))
             → e ≡ targetAfter (cond p (blockOutcome (planeTag k) true (w / 8) h rows (length d)) (refused 3)) d → Accepted (planeTag k) true w h rows d e len × (k ≤ 4)
         go true p a t =
-            let both = and-true (sizesAllowed w h) (leb 1 k && leb k 4) p in
-            (block-accepted (planeTag k) true w h rows d e len (sizes w h (both .0)) a t, leb-true k 4 (and-true (leb 1 k) (leb k 4) (both .1) .1))
+            let two = both (sizesAllowed w h) (leb 1 k && leb k 4) p in
+            (block-accepted (planeTag k) true w h rows d e len (sizes w h (two .0)) a t, leb-true k 4 (both (leb 1 k) (leb k 4) (two .1) .1))
         go false p a t = wrong len 3 a
 
     -- the block ZP0k that an accepted call has left at the front of its target e

@@ -5,6 +5,7 @@ use mathlib.Core.Bool.{Bool, true, false}
 use mathlib.Core.List.{List, [], _∷_, _++_}
 use Prim.Native.Nat.{ℕ, zero, suc, _+_, _*_, _/_, _%_}
 use lib.ListN.{length, getD}
+use Rattle.number.specs.Number.{le16Bytes, le32Bytes, be32Bytes}
 use Rattle.strip.specs.Picture.{upTo}
 use Rattle.table.specs.Table.{tableEnd}
 use Rattle.writer.specs.Pixels.{stripBody}
@@ -35,14 +36,10 @@ bodyFor true n h rows k = rowsBody (rowsOfStrip n h rows k)
 
 -- ---- the parts of a block, for any bodies f
 
--- four bytes, the highest first
-unfoldable pub bigEndian : ℕ → List ℕ
-bigEndian v = v / 16777216 % 256 ∷ v / 65536 % 256 ∷ v / 256 % 256 ∷ v % 256 ∷ []
-
 -- an offset in the table, the lowest byte first: a u32 or, of a plane, a u16
 unfoldable pub offsetBytes : Bool → ℕ → List ℕ
-offsetBytes false v = v % 256 ∷ v / 256 % 256 ∷ v / 65536 % 256 ∷ v / 16777216 % 256 ∷ []
-offsetBytes true v = v % 256 ∷ v / 256 % 256 ∷ []
+offsetBytes false v = le32Bytes v
+offsetBytes true v = le16Bytes v
 
 -- the offset of a body that would start at `at`: 0 where there is no body
 abbrev pub offsetOf : List ℕ → ℕ → ℕ
@@ -64,7 +61,7 @@ unfoldable pub sizeOf : Bool → (n : ℕ) → (ℕ → List ℕ) → ℕ
 sizeOf mask n f = tableEnd mask n + length (bodiesFrom f 0 n)
 
 unfoldable pub blockOf : (tag : ℕ) → Bool → (n : ℕ) → (ℕ → List ℕ) → List ℕ
-blockOf tag mask n f = bigEndian tag ++ (bigEndian (sizeOf mask n f) ++ (tableFrom mask f 0 n (tableEnd mask n) ++ bodiesFrom f 0 n))
+blockOf tag mask n f = be32Bytes tag ++ (be32Bytes (sizeOf mask n f) ++ (tableFrom mask f 0 n (tableEnd mask n) ++ bodiesFrom f 0 n))
 
 -- ---- the blocks
 

@@ -4,11 +4,14 @@ ghost use mathlib.Core.Path.{_≡_};
 ghost use mathlib.Core.List.{List, _++_};
 ghost use Prim.Native.Nat.{ℕ, _+_, _*_, _≤_, _<_};
 ghost use lib.ListN.{length, take};
+ghost use lib.Seq.{sets};
 ghost use Rattle.strip.specs.Picture.{over};
 ghost use Rattle.table.specs.Table.{offsetSize, tableEnd};
-ghost use Rattle.blocks.specs.Block.{stripBytes, bodyFor, bigEndian, offsetBytes, offsetOf, tableFrom, bodiesFrom};
-ghost use Rattle.blocks.specs.Put.{putAt};
-ghost use Rattle.blocks.specs.Call.{sizesAllowed, sourceSize, blockOutcome, smapOutcome, planeOutcome, answerOf, targetAfter, Answered, Given};
+ghost use Rattle.blocks.specs.Block.{stripBytes, bodyFor, offsetBytes, offsetOf, tableFrom, bodiesFrom};
+ghost use Rattle.blocks.specs.Call.{sizesAllowed, sourceSize, blockOutcome, smapOutcome, planeOutcome, Answered, Given};
+use number::put_be32;
+use number::put_le16;
+use number::put_le32;
 
 // The answer of a call: the length of the block that it wrote, or the number of its refusal.
 pub enum Wrote {
@@ -29,17 +32,6 @@ fn gather(src: &[u8], own: usize, wide: usize, h: usize, k: usize, out: &mut [u8
     }
 }
 
-// v as four bytes, the highest first.
-fn put_be32(out: &mut [u8], at: usize, v: usize)
-    requires { ⌜ at + 4 ≤ length (now out) ⌝ }
-    ensures { λ _. ⌜ now (out .exit) ≡ putAt (now (out .entry)) at (bigEndian v) ⌝ }
-{
-    out[at] = (v / 16777216 % 256) as u8;
-    out[at + 1] = (v / 65536 % 256) as u8;
-    out[at + 2] = (v / 256 % 256) as u8;
-    out[at + 3] = (v % 256) as u8;
-}
-
 // The bytes of one offset in the table.
 fn offset_size(mask: bool) -> usize
     ensures { λ r. ⌜ (r ≡ offsetSize mask) × (r ≤ 4) ⌝ }
@@ -53,23 +45,20 @@ fn offset_size(mask: bool) -> usize
 // An offset in the table, the lowest byte first.
 fn put_offset(out: &mut [u8], mask: bool, at: usize, v: usize)
     requires { ⌜ at + offsetSize mask ≤ length (now out) ⌝ }
-    ensures { λ _. ⌜ now (out .exit) ≡ putAt (now (out .entry)) at (offsetBytes mask v) ⌝ }
+    ensures { λ _. ⌜ now (out .exit) ≡ sets (now (out .entry)) at (offsetBytes mask v) ⌝ }
 {
     if mask {
-        out[at] = (v % 256) as u8;
-        out[at + 1] = (v / 256 % 256) as u8;
-        return;
+        put_le16(out, at, v);
+    } else {
+        put_le32(out, at, v);
     }
-    out[at] = (v % 256) as u8;
-    out[at + 1] = (v / 256 % 256) as u8;
-    out[at + 2] = (v / 65536 % 256) as u8;
-    out[at + 3] = (v / 16777216 % 256) as u8;
 }
 
 // The body of strip k at the front of `out`: its length, 0 where it has none.
 fn write_body(src: &[u8], mask: bool, n: usize, h: usize, k: usize, out: &mut [u8]) -> usize
     requires { ⌜ Given mask n h (length (now src)) × (k < n) × (length (bodyFor mask n h (now src) k) ≤ length (now out)) ⌝ }
-    ensures { λ r. ⌜ (r ≡ length (bodyFor mask n h (now (src .entry)) k)) × (now (out .exit) ≡ over (bodyFor mask n h (now (src .entry)) k) (now (out .entry))) ⌝ }
+    ensures { λ r. ⌜ (r ≡ length (bodyFor mask n h (now (src .entry)) k))
+        × (now (out .exit) ≡ over (bodyFor mask n h (now (src .entry)) k) (now (out .entry))) ⌝ }
 {
     let mut strip = [0u8; 1600];
     if mask {
@@ -117,7 +106,9 @@ fn bodies_size(src: &[u8], mask: bool, n: usize, h: usize) -> usize
 // The table and the bodies, after a header of 8 bytes.
 fn write_strips(src: &[u8], mask: bool, n: usize, h: usize, out: &mut [u8])
     requires { ⌜ Given mask n h (length (now src)) × (tableEnd mask n + length (bodiesFrom (bodyFor mask n h (now src)) 0 n) ≤ length (now out)) ⌝ }
-    ensures { λ _. ⌜ now (out .exit) ≡ over (take 8 (now (out .entry)) ++ (tableFrom mask (bodyFor mask n h (now (src .entry))) 0 n (tableEnd mask n) ++ bodiesFrom (bodyFor mask n h (now (src .entry))) 0 n)) (now (out .entry)) ⌝ }
+    ensures { λ _. ⌜ now (out .exit) ≡ over (take 8 (now (out .entry))
+        ++ (tableFrom mask (bodyFor mask n h (now (src .entry))) 0 n (tableEnd mask n)
+        ++ bodiesFrom (bodyFor mask n h (now (src .entry))) 0 n)) (now (out .entry)) ⌝ }
 {
     let size = offset_size(mask);
     let mut at = 8 + size * n;
@@ -170,7 +161,7 @@ fn sizes_allowed(w: u32, h: u32) -> bool
 
 // The SMAP block of w × h pixels, pixel (x, y) at y × w + x of `rows`, into `out`: its length, or 3, or 4.
 pub fn write_smap(rows: &[u8], out: &mut [u8], w: u32, h: u32) -> Wrote
-    ensures { λ r. ⌜ (r ≡ answerOf (smapOutcome w h (now (rows .entry)) (length (now (out .entry))))) × (now (out .exit) ≡ targetAfter (smapOutcome w h (now (rows .entry)) (length (now (out .entry)))) (now (out .entry))) ⌝ }
+    ensures { λ r. ⌜ Answered (smapOutcome w h (now (rows .entry)) (length (now (out .entry)))) (now (out .entry)) (now (out .exit)) r ⌝ }
 {
     if sizes_allowed(w, h) {
         return write_block(rows, 0x534D4150, false, (w / 8) as usize, h as usize, out);
@@ -180,7 +171,7 @@ pub fn write_smap(rows: &[u8], out: &mut [u8], w: u32, h: u32) -> Wrote
 
 // The block ZP0k of one plane, row y of strip s at y × w / 8 + s of `rows`, into `out`: its length, or 3, or 4.
 pub fn write_plane(rows: &[u8], out: &mut [u8], w: u32, h: u32, k: u32) -> Wrote
-    ensures { λ r. ⌜ (r ≡ answerOf (planeOutcome k w h (now (rows .entry)) (length (now (out .entry))))) × (now (out .exit) ≡ targetAfter (planeOutcome k w h (now (rows .entry)) (length (now (out .entry)))) (now (out .entry))) ⌝ }
+    ensures { λ r. ⌜ Answered (planeOutcome k w h (now (rows .entry)) (length (now (out .entry)))) (now (out .entry)) (now (out .exit)) r ⌝ }
 {
     if sizes_allowed(w, h) & ((1 <= k) & (k <= 4)) {
         return write_block(

@@ -8,7 +8,7 @@ use native.Mathlib.Decide.{ℕ-discrete}
 use native.Mathlib.Omega.{arith}
 use borrow.Author.Tests.{eqb-true, eqb-false, eq-eqb, ne-eqb, leb-true, le-leb}
 use lib.Dec.{eqb, leb}
-use Rattle.replay.proofs.ReplayLaws.{both}
+use Rattle.number.proofs.BoolLaws.{both}
 use Rattle.climb.specs.Objects.{Objects}
 use Rattle.climb.specs.Climb.{lets, isOpen}
 

@@ -4,7 +4,7 @@ ghost use Prim.Native.Nat.{_≤_};
 ghost use lib.ListN.{length};
 ghost use Rattle.climb.specs.Climb.{isOpen};
 ghost use Rattle.climb.specs.Tables.{stateIn, boxesOf};
-use replay::tables::wide;
+use number::wide_u32;
 
 // A parent in this state lets its child be found, by the child's flags.
 fn lets(flags: u32, state: u32) -> bool
@@ -24,7 +24,7 @@ pub fn is_open(boxes: &[u32], states: &[u32], count: usize, links: usize, o: usi
     if links == 0 {
         return false;
     }
-    let parent = wide(boxes[8 * o + 6]);
+    let parent = wide_u32(boxes[8 * o + 6]);
     if parent == 0 {
         return true;
     }

@@ -4,6 +4,7 @@ use mathlib.Core.Bool.{true, false}
 use mathlib.Core.List.{List, [], _∷_}
 use Prim.Native.Nat.{ℕ}
 use lib.ListN.{replicate}
+use Rattle.number.specs.Number.{le32Bytes}
 use Rattle.limbs.specs.Limb.{limbAt, putLimb, eachLimb, all, limbRight, limbsRight}
 use Rattle.limbs.proofs.Examples.{commands, lent, still, bytes, bent}
 use Rattle.costume.specs.declared.Started.{Started}
@@ -40,12 +41,12 @@ refusals = refl
 
 -- the record at 10 sets limbs 0 and 2; limb 0 was stopped and stays so
 setting : startBytes payload (lent (bytes 0 1 0 0 0 0 0 0) (bytes 1 0 0 1 18 2 0 1)) 0 5 30 0 0 ≡ lent (bytes 1 1 0 0 0 3 0 0) (bytes 1 0 1 0 0 2 3 3)
-unfolding lent bytes payload commands startBytes eachLimb putLimb begunLimb startNumber numbersRight limbsRight all limbRight limbAt offsetRight recordRight entryOf entryPlace entryAt defined
+unfolding lent bytes payload commands startBytes eachLimb putLimb le32Bytes begunLimb startNumber numbersRight limbsRight all limbRight limbAt offsetRight recordRight entryOf entryPlace entryAt defined
 setting = refl
 
 -- the record at 20 idles limb 2 and leaves limb 0
 idling : startBytes payload (lent (bytes 1 0 0 1 18 3 0 1) (bytes 1 1 1 1 5 2 3 4)) 0 5 30 1 0 ≡ lent (bytes 1 0 0 1 18 3 0 1) (bytes 0 1 0 0 0 0 0 0)
-unfolding lent bytes payload commands startBytes eachLimb putLimb begunLimb startNumber numbersRight limbsRight all limbRight limbAt offsetRight recordRight entryOf entryPlace entryAt defined
+unfolding lent bytes payload commands startBytes eachLimb putLimb le32Bytes begunLimb startNumber numbersRight limbsRight all limbRight limbAt offsetRight recordRight entryOf entryPlace entryAt defined
 idling = refl
 
 -- a limb whose place is past its window is wrong for a start, also of an animation that is not defined
@@ -55,7 +56,7 @@ wrong = refl
 
 -- a start that is refused and one of an animation that is not defined leave the bytes
 keeping : startBytes payload bent 0 5 30 0 0 ∷ startBytes payload still 0 5 30 0 1 ∷ [] ≡ bent ∷ still ∷ []
-unfolding bent still lent bytes payload commands startBytes eachLimb putLimb begunLimb startNumber numbersRight limbsRight all limbRight limbAt offsetRight recordRight entryOf entryPlace entryAt defined
+unfolding bent still lent bytes payload commands startBytes eachLimb putLimb le32Bytes begunLimb startNumber numbersRight limbsRight all limbRight limbAt offsetRight recordRight entryOf entryPlace entryAt defined
 keeping = refl
 
 -- stored offsets: 0 and FFFF stand for no record, 1 and 5 are wrong, and 6 is the record at payload byte 0

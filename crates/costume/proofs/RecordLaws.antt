@@ -7,10 +7,11 @@ use native.Mathlib.Omega.{arith}
 use borrow.Author.Tests.{le-leb, lt-leb, leb-true}
 use lib.Dec.{leb, eqb}
 use lib.ListN.{length, getD}
+use Rattle.number.proofs.BoolLaws.{both}
 use Rattle.number.specs.Number.{le16}
 use Rattle.limbs.specs.declared.Limb.{Limb}
 use Rattle.limbs.specs.Limb.{all, limbRight}
-use Rattle.limbs.proofs.LimbLaws.{and-both, all-false, all-at, right-idle, right-from}
+use Rattle.limbs.proofs.LimbLaws.{all-false, all-at, right-idle, right-from}
 use Rattle.limbs.proofs.AfterLaws.{Bytes, Small}
 use Rattle.costume.specs.declared.Entry.{Entry}
 use Rattle.costume.specs.declared.Entry.the-variants.{Unnamed, Cut, Idle, Window}
@@ -42,12 +43,12 @@ module _ (s : List ℕ) (r : ℕ) where
 
     pub record-in : recordRight s r n ≡ true → r + 2 ≤ length s
     unfolding recordRight
-    record-in h = leb-true _ _ (and-both (leb (r + 2) (length s)) (all 16 (λ k. entryRight n (entryOf s r k))) h .0)
+    record-in h = leb-true _ _ (both (leb (r + 2) (length s)) (all 16 (λ k. entryRight n (entryOf s r k))) h .0)
 
     pub record-entries : recordRight s r n ≡ true → (i : ℕ) → i < 16 → entryRight n (entryOf s r i) ≡ true
     unfolding recordRight
     record-entries h =
-        all-at 16 (λ k. entryRight n (entryOf s r k)) (and-both (leb (r + 2) (length s)) (all 16 (λ k. entryRight n (entryOf s r k))) h .1)
+        all-at 16 (λ k. entryRight n (entryOf s r k)) (both (leb (r + 2) (length s)) (all 16 (λ k. entryRight n (entryOf s r k))) h .1)
 
 -- ---- an entry that was read from bytes
 abbrev pub Shape : Entry → Type 0

@@ -4,12 +4,12 @@ use mathlib.Core.Bool.{Bool, true, false, _&&_, not, cond}
 use mathlib.Core.List.{List}
 use Prim.Native.Nat.{ℕ, _+_, _*_, _-_, _<_, _≤_}
 use native.Mathlib.Omega.{arith}
-use borrow.Author.Tests.{lt-ltb, le-ltb, le-leb, lt-leb, leb-true, ltb-true, ltb-false, eq-eqb, ne-eqb}
+use borrow.Author.Tests.{lt-ltb, le-ltb, le-leb, lt-leb, leb-true, ltb-true, ltb-false, eq-eqb, ne-eqb, not-true}
 use lib.Dec.{ltb, leb, eqb}
 use lib.ListN.{length, length-drop}
 use Rattle.limbs.specs.Limb.{limbsRight, eachLimb}
 use Rattle.limbs.specs.Tick.{commandRight, stream}
-use Rattle.limbs.proofs.LimbLaws.{and-both}
+use Rattle.number.proofs.BoolLaws.{both}
 use Rattle.costume.specs.declared.Started.the-variants.{Set, Undefined, Refused}
 use Rattle.costume.specs.Record.{maskOf, entryOf, recordRight, begunLimb}
 use Rattle.costume.specs.Start.{recordNumber, offsetAt, numbersRight, noRecord, offsetRight, defined, startNumber, startedOf, startBytes}
@@ -43,8 +43,8 @@ module _ (s : List ℕ) (t count chore direction : ℕ) where
       let t2 = leb direction 3 in
       let t3 = ltb (recordNumber chore direction) count in
       let t4 = leb (t + 2 * count) (length s) in
-      let a = and-both (t1 && t2 && t3) t4 h in
-      let b = and-both (t1 && t2) t3 (a .0) in
+      let a = both (t1 && t2 && t3) t4 h in
+      let b = both (t1 && t2) t3 (a .0) in
       let lt = ltb-true (recordNumber chore direction) count (b .1) in
       let le = leb-true (t + 2 * count) (length s) (a .1) in
       omega arith
@@ -74,12 +74,12 @@ module _ (s : List ℕ) (o : ℕ) where
 
     pub offset-record-right : offsetRight s o n ≡ true → noRecord o ≡ false → recordRight s (o - 6) n ≡ true
     unfolding offsetRight
-    offset-record-right h e = and-both (leb 6 o) (recordRight s (o - 6) n) (rw e at h) .1
+    offset-record-right h e = both (leb 6 o) (recordRight s (o - 6) n) (rw e at h) .1
 
     -- the mask of its record lies in the payload
     pub offset-in : offsetRight s o n ≡ true → noRecord o ≡ false → (6 ≤ o) × (o - 6 + 2 ≤ length s)
     unfolding offsetRight
-    offset-in h e = (leb-true 6 o (and-both (leb 6 o) (recordRight s (o - 6) n) (rw e at h) .0), record-in s (o - 6) n (offset-record-right h e))
+    offset-in h e = (leb-true 6 o (both (leb 6 o) (recordRight s (o - 6) n) (rw e at h) .0), record-in s (o - 6) n (offset-record-right h e))
 
   pub defined-none : o ≡ 0 → false ≡ defined s o
   unfolding defined
@@ -95,11 +95,7 @@ module _ (s : List ℕ) (o : ℕ) where
 
   pub defined-some : defined s o ≡ true → noRecord o ≡ false
   unfolding defined
-  defined-some h = go (noRecord o) (and-both (not (noRecord o)) (not (eqb (maskOf s (o - 6)) 0)) h .0)
-    where
-      go : (b : Bool) → not b ≡ true → b ≡ false
-      go true e = sym e
-      go false e = refl
+  defined-some h = not-true (noRecord o) (both (not (noRecord o)) (not (eqb (maskOf s (o - 6)) 0)) h .0)
 
 -- ---- the number of a start, from the tests that the code makes
 module _ (s l : List ℕ) (t count v chore direction : ℕ) where

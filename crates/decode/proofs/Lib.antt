@@ -1,5 +1,5 @@
 pub mod PaintLaws
-pub mod TallyLaws
-pub mod LookLaws
+pub mod OutcomeLaws
+pub mod WholeOpsLaws
 pub mod RowLaws
-pub mod PastLaws
+pub mod SkipLaws

@@ -14,11 +14,11 @@ use Rattle.strip.specs.declared.State.{State}
 use Rattle.strip.specs.declared.Next.{Next}
 use Rattle.strip.specs.declared.Next.the-variants.{Go, Refuse}
 use Rattle.strip.specs.declared.Made.{Made}
-use Rattle.strip.specs.Strip.{Strip, refused, pixels, glue, decode}
+use Rattle.strip.specs.Strip.{Strip, refused, pixels, prepend, decode}
 use Rattle.strip.specs.Place.{opLength, secondBit, Whole, runAhead, ahead, Gives, Stepped, Leads, keptBy}
-use Rattle.strip.proofs.StripLaws.{glue-glue, decode-owed}
+use Rattle.strip.proofs.StripLaws.{prepend-prepend, decode-pending}
 use Rattle.strip.proofs.PlaceLaws.{gives-op, gives-kept}
-use Rattle.decode.specs.Paint.{Painted, Paints, Advances, Turned, Drew}
+use Rattle.decode.specs.Paint.{Painted, Paints, Advances, Turned, Decoded}
 
 module _ (second : Bool) (w total : ℕ) (s : List ℕ) where
   pub paints : (st to : State) (out out′ : List ℕ) → Gives second w total s st to → take (to .i) out′ ≡ take (st .i) out ++ replicate (to .i - st .i) (to .colour)
@@ -27,9 +27,9 @@ module _ (second : Bool) (w total : ℕ) (s : List ℕ) where
       record {
         on = λ x p.
             p
-            ∙ ap (glue (take (st .i) out)) g
-            ∙ glue-glue (take (st .i) out) (replicate (to .i - st .i) (to .colour)) (ahead second w total s to)
-            ∙ ap (λ (l : List ℕ). glue l (ahead second w total s to)) (sym e);
+            ∙ ap (prepend (take (st .i) out)) g
+            ∙ prepend-prepend (take (st .i) out) (replicate (to .i - st .i) (to .colour)) (ahead second w total s to)
+            ∙ ap (λ (l : List ℕ). prepend l (ahead second w total s to)) (sym e);
       }
 
   pub paints-on : (a b c : State) (p q r : List ℕ) → Paints second w total s a p b q → Paints second w total s b q c r → Paints second w total s a p c r
@@ -79,10 +79,10 @@ module _ (second : Bool) (w : ℕ) where
 -- ---- what a group and a turn need
 
 -- no operation but a run takes more than ten bits
-pub whole-in-ten : (second : Bool) (w : ℕ) (c : Cursor) → w ≤ 8 → 10 ≤ c .have → Whole second w c
+pub whole-in-ten : (second : Bool) (w : ℕ) (c : Cursor) → w ≤ 8 → 10 ≤ c .bits → Whole second w c
 whole-in-ten second w c h ten = record { two = omega arith; all = λ s v l e. by (secondBit v) second }
   where
-    by : (more second : Bool) → opLength second w more ≤ c .have
+    by : (more second : Bool) → opLength second w more ≤ c .bits
     by false second = omega arith
     by true true = omega arith
     by true false = omega arith
@@ -93,13 +93,13 @@ pub kept-some : (second : Bool) (s : List ℕ) (c next : Cursor) (k : ℕ) → H
 kept-some second s c next zero zeros e f = absurd (true≢false (sym f ∙ sym (ap (runAhead second) (got-tail (zeros .front s))) ∙ e))
 kept-some second s c next (suc k) zeros e f = omega arith
 
--- the place `st` is the place `from`, with more bits in hand
+-- the place `st` is the place `from`, with more bits held
 module _ (second : Bool) (w total : ℕ) (s : List ℕ) (from st : State) (ei : st .i ≡ from .i) (ec : st .colour ≡ from .colour) (es : st .step ≡ from .step) (er : rest s (st .cur) ≡ rest s (from .cur)) where
   same-ahead : ahead second w total s from ≡ ahead second w total s st
   same-ahead = λ i. decode second w (total - sym ei i) 0 (sym ec i) (sym es i) (sym er i)
 
   same-painted : (x : Strip) (out : List ℕ) → Painted second w total s x out from → Painted second w total s x out st
-  same-painted x out p = p ∙ ap₂ (λ (j : ℕ) (y : Strip). glue (take j out) y) (sym ei) same-ahead
+  same-painted x out p = p ∙ ap₂ (λ (j : ℕ) (y : Strip). prepend (take j out) y) (sym ei) same-ahead
 
   pub turned-many : (n : ℕ) (to : State) (out out′ : List ℕ) → Advances second w n st out to out′ → st .i < to .i → st .i + n ≤ total → Held s (st .cur)
       → Turned second w total s from out out′ (Go to)
@@ -132,12 +132,12 @@ stepped-as second w total s st e h = subst (λ r. Stepped second w total s st r)
 module _ (second : Bool) (w total : ℕ) where
   -- pixel 0 is the first colour
   pub paint-start : (c : ℕ) (l : List Bool) (out : List ℕ) → 1 ≤ total → 0 < length out
-      → decode second w total 1 c 1 l ≡ glue (take 1 (set out 0 c)) (decode second w (total - 1) 0 c 1 l)
+      → decode second w total 1 c 1 l ≡ prepend (take 1 (set out 0 c)) (decode second w (total - 1) 0 c 1 l)
   paint-start c l out h some =
       let e : total ≡ 1 + (total - 1) = omega arith in
       ap (λ (n : ℕ). decode second w n 1 c 1 l) e
-      ∙ decode-owed second w 1 (total - 1) c 1 l
-      ∙ ap (λ (p : List ℕ). glue p (decode second w (total - 1) 0 c 1 l)) (sym (take-suc-set out 0 c some))
+      ∙ decode-pending second w 1 (total - 1) c 1 l
+      ∙ ap (λ (p : List ℕ). prepend p (decode second w (total - 1) 0 c 1 l)) (sym (take-suc-set out 0 c some))
 
   module _ (s : List ℕ) (x : Strip) (out : List ℕ) (st : State) (painted : Painted second w total s x out st) where
     pub paint-end : st .i ≡ total → x ≡ pixels (take total out)
@@ -145,15 +145,15 @@ module _ (second : Bool) (w total : ℕ) where
     paint-end e =
         let z : total - st .i ≡ 0 = omega arith in
         painted
-        ∙ ap (λ (n : ℕ). glue (take (st .i) out) (decode second w n 0 (st .colour) (st .step) (rest s (st .cur)))) z
+        ∙ ap (λ (n : ℕ). prepend (take (st .i) out) (decode second w n 0 (st .colour) (st .step) (rest s (st .cur)))) z
         ∙ ap pixels (append-nil (take (st .i) out))
         ∙ ap (λ (n : ℕ). pixels (take n out)) e
 
     pub paint-no : (n : ℕ) → ahead second w total s st ≡ refused n → x ≡ refused n
-    paint-no n e = painted ∙ ap (glue (take (st .i) out)) e
+    paint-no n e = painted ∙ ap (prepend (take (st .i) out)) e
 
   pub turned-as : (s : List ℕ) (st : State) (out out′ : List ℕ) {r r′ : Next} → r ≡ r′ → Turned second w total s st out out′ r → Turned second w total s st out out′ r′
   turned-as s st out out′ e h = subst (λ r. Turned second w total s st out out′ r) e h
 
-pub told-drew : (n : ℕ) (x : Strip) (out : List ℕ) {r r′ : Made} → r ≡ r′ → Drew n x out r → Drew n x out r′
-told-drew n x out e h = subst (λ q. Drew n x out q) e h
+pub told-drew : (n : ℕ) (x : Strip) (out : List ℕ) {r r′ : Made} → r ≡ r′ → Decoded n x out r → Decoded n x out r′
+told-drew n x out e h = subst (λ q. Decoded n x out q) e h

@@ -1,3 +1,3 @@
 pub mod Paint
-pub mod Tally
-pub mod Look
+pub mod Outcome
+pub mod WholeOps

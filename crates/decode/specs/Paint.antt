@@ -11,12 +11,12 @@ use Rattle.strip.specs.declared.Next.{Next}
 use Rattle.strip.specs.declared.Next.the-variants.{Go, Refuse}
 use Rattle.strip.specs.declared.Made.{Made}
 use Rattle.strip.specs.declared.Made.the-variants.{All, Refused}
-use Rattle.strip.specs.Strip.{Strip, refused, pixels, glue}
+use Rattle.strip.specs.Strip.{Strip, refused, pixels, prepend}
 use Rattle.strip.specs.Place.{ahead}
 
 -- x is the pixels painted up to the place st, and then what comes from there on
 abbrev pub Painted : Bool → (w total : ℕ) → List ℕ → Strip → (out : List ℕ) → State → Type 0
-Painted second w total s x out st = x ≡ glue (take (st .i) out) (ahead second w total s st)
+Painted second w total s x out st = x ≡ prepend (take (st .i) out) (ahead second w total s st)
 
 -- painting on from st to `to`, which makes out′ of out
 pub record Paints (second : Bool) (w total : ℕ) (s : List ℕ) (st : State) (out : List ℕ) (to : State) (out′ : List ℕ) : Type 0 where
@@ -35,6 +35,6 @@ Turned second w total s st out out′ (Go to) = (st .i < to .i) × (to .i ≤ to
 Turned second w total s st out out′ (Refuse n) = ahead second w total s st ≡ refused n
 
 -- the answer r to a decode x of n pixels into a buffer, which is e after
-abbrev pub Drew : ℕ → Strip → List ℕ → Made → Type 0
-Drew n x e All = x ≡ pixels (take n e)
-Drew n x e (Refused r) = x ≡ refused r
+abbrev pub Decoded : ℕ → Strip → List ℕ → Made → Type 0
+Decoded n x e All = x ≡ pixels (take n e)
+Decoded n x e (Refused r) = x ≡ refused r

@@ -4,6 +4,7 @@ ghost use Prim.Native.Nat.{_+_, _*_, _≤_, _<_};
 ghost use mathlib.Core.Bool.{true, false};
 ghost use lib.ListN.{length, getD, take, drop};
 ghost use Rattle.strip.specs.Picture.{sourceOf, upTo, placed, over};
+use number::buffer::copy;
 
 // Row y of a strip whose pixels are made by columns, where the rows above it are done. A column further is h pixels further, so that no pixel
 // costs a division.
@@ -41,12 +42,7 @@ fn rows(src: &[u8], h: usize, out: &mut [u8])
     requires { ⌜ (8 * h ≤ length (now src)) × (8 * h ≤ length (now out)) ⌝ }
     ensures { λ _. ⌜ now (out .exit) ≡ over (placed false h (now (src .entry))) (now (out .entry)) ⌝ }
 {
-    let total = 8 * h;
-    let mut j: usize = 0;
-    while j < total {
-        out[j] = src[j];
-        j += 1;
-    }
+    copy(src, 0, 8 * h, out, 0);
 }
 
 // The pixels of `src`, by rows, into the first 8h bytes of `out`.

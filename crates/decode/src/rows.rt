@@ -1,8 +1,8 @@
-// Rows of operations: for each byte of a strip's bits, what the whole operations at its front take and give (specs/Look.antt).
+// Rows of operations: for each byte of a strip's bits, what the whole operations at its front take and give (specs/WholeOps.antt).
 ghost use lib.ListN.{length};
 ghost use mathlib.Core.Path.{_≡_};
 ghost use mathlib.Core.Bool.{true, false};
-ghost use Rattle.decode.specs.Look.{Rows};
+ghost use Rattle.decode.specs.WholeOps.{Rows};
 
 // bits + 16 × pixels + 256 × index, of the first method.
 const FIRST: [u16; 256] = [

@@ -6,26 +6,21 @@ ghost use Prim.Native.Nat.{ℕ, _+_, _*_, _/_, _%_, _≤_, _<_};
 ghost use lib.ListN.{length, drop, getD};
 ghost use Rattle.bits.specs.Bits.{Held, bitsOf};
 ghost use Rattle.strip.specs.Picture.{rawOf, codedOf, stripOf};
-ghost use Rattle.decode.specs.Look.{Rows, Small};
-ghost use Rattle.decode.specs.Tally.{tally, testOf, Went, Tested};
+ghost use Rattle.decode.specs.WholeOps.{Rows, Small};
+ghost use Rattle.decode.specs.Outcome.{outcome, testOf, Skipped, Tested};
 use crate::rows::first_rows;
 use crate::rows::second_rows;
 use bits::Cursor;
+use number::wide_u16;
 use strip::Kind;
 use strip::Made;
 use strip::Next;
 use strip::State;
 use strip::codes::kind_of;
-use strip::operations::filled;
 use strip::operations::fits;
 use strip::operations::kept;
+use strip::operations::refill;
 use strip::operations::step;
-
-fn wide(x: u16) -> usize
-    ensures { λ r. ⌜ r ≡ x ⌝ }
-{
-    x as usize
-}
 
 // How many bits a row's operations take.
 fn reach_of(row: usize, w: u32) -> u32
@@ -36,13 +31,15 @@ fn reach_of(row: usize, w: u32) -> u32
     if row < 256 { bits } else { bits + (2 + w) }
 }
 
-// Past the whole operations at the front of the next eight bits.
-fn past(rows: &[u16], w: u32, st: State) -> State
-    requires { ⌜ (256 ≤ length (now rows)) × ((x : ℕ) → x < 256 → Small (getD (now rows) x 0)) × (w ≤ 8) × (18 ≤ st .cur .have) × (st .cur .have ≤ 63) × (st .i < 1600) ⌝ }
-    ensures { λ r. ⌜ (st .cur .have ≤ r .cur .have + 18) × (r .cur .have ≤ 63) × (st .i ≤ r .i) × (r .i ≤ st .i + 8) × ((s : List ℕ) → Held s (st .cur) → Held s (r .cur)) × ((second : Bool) (s : List ℕ) → Rows second (now (rows .entry)) → Went second w s st r) ⌝ }
+// Skips the whole operations at the front of the next eight bits.
+fn skip(rows: &[u16], w: u32, st: State) -> State
+    requires { ⌜ (256 ≤ length (now rows)) × ((x : ℕ) → x < 256 → Small (getD (now rows) x 0)) × (w ≤ 8) × (18 ≤ st .cur .bits)
+        × (st .cur .bits ≤ 63) × (st .i < 1600) ⌝ }
+    ensures { λ r. ⌜ (st .cur .bits ≤ r .cur .bits + 18) × (r .cur .bits ≤ 63) × (st .i ≤ r .i) × (r .i ≤ st .i + 8)
+        × ((s : List ℕ) → Held s (st .cur) → Held s (r .cur)) × ((second : Bool) (s : List ℕ) → Rows second (now (rows .entry)) → Skipped second w s st r) ⌝ }
 {
     let cur = st.cur;
-    let row = wide(rows[cur.take(8).bits as usize]);
+    let row = wide_u16(rows[cur.take(8).value as usize]);
     let next = cur.take(reach_of(row, w)).next;
     State {
         i: st.i + row / 16 % 16,
@@ -52,36 +49,38 @@ fn past(rows: &[u16], w: u32, st: State) -> State
     }
 }
 
-// Past many operations: 32 keeps at once, or three rows.
-fn looks(rows: &[u16], w: u32, st: State) -> State
-    requires { ⌜ (256 ≤ length (now rows)) × ((x : ℕ) → x < 256 → Small (getD (now rows) x 0)) × (w ≤ 8) × (54 ≤ st .cur .have) × (st .cur .have ≤ 63) × (st .i + 32 ≤ 1600) ⌝ }
-    ensures { λ r. ⌜ (st .i ≤ r .i) × (r .i ≤ st .i + 32) × ((s : List ℕ) → Held s (st .cur) → Held s (r .cur)) × ((second : Bool) (s : List ℕ) → Rows second (now (rows .entry)) → Went second w s st r) ⌝ }
+// Skips many operations: 32 keeps at once, or three rows.
+fn skip_many(rows: &[u16], w: u32, st: State) -> State
+    requires { ⌜ (256 ≤ length (now rows)) × ((x : ℕ) → x < 256 → Small (getD (now rows) x 0)) × (w ≤ 8) × (54 ≤ st .cur .bits)
+        × (st .cur .bits ≤ 63) × (st .i + 32 ≤ 1600) ⌝ }
+    ensures { λ r. ⌜ (st .i ≤ r .i) × (r .i ≤ st .i + 32) × ((s : List ℕ) → Held s (st .cur) → Held s (r .cur))
+        × ((second : Bool) (s : List ℕ) → Rows second (now (rows .entry)) → Skipped second w s st r) ⌝ }
 {
     let cur = st.cur;
     let many = cur.take(32);
-    if many.bits == 0 {
+    if many.value == 0 {
         let next = many.next;
         return kept(st, 32, next);
     }
-    let one = past(rows, w, st);
-    let two = past(rows, w, one);
-    past(rows, w, two)
+    let one = skip(rows, w, st);
+    let two = skip(rows, w, one);
+    skip(rows, w, two)
 }
 
-// Past as many operations as the bits in hand and the pixels left allow, or past one. A row takes at most eight bits and an index of ten.
+// Skips as many operations as the bits held and the pixels left allow, or one. A row takes at most eight bits and an index of ten.
 fn turn(body: &[u8], second: bool, w: u32, total: usize, rows: &[u16], from: State) -> Next
     requires { ⌜ (w ≤ 8) × Held (now body) (from .cur) × (from .i < total) × (total ≤ 1600) × (256 ≤ length (now rows)) × Rows second (now rows) ⌝ }
     ensures { λ r. ⌜ Tested second w total (now (body .entry)) from r ⌝ }
 {
-    let st = filled(body, from);
+    let st = refill(body, from);
     if fits(second, total, 54, 32, st) {
-        let to = looks(rows, w, st);
+        let to = skip_many(rows, w, st);
         if st.i < to.i {
             return Next::Go(to);
         }
     }
     if fits(second, total, 18, 9, st) {
-        let to = past(rows, w, st);
+        let to = skip(rows, w, st);
         if st.i < to.i {
             return Next::Go(to);
         }
@@ -92,7 +91,7 @@ fn turn(body: &[u8], second: bool, w: u32, total: usize, rows: &[u16], from: Sta
 // The test of the operations of a body, whose first colour is pixel 0. No refusal depends on a colour or a step, so any will do.
 pub(crate) fn test_bits(body: &[u8], second: bool, w: u32, total: usize, rows: &[u16]) -> Made
     requires { ⌜ (w ≤ 8) × (1 ≤ total) × (total ≤ 1600) × (2 ≤ length (now body)) × (256 ≤ length (now rows)) × Rows second (now rows) ⌝ }
-    ensures { λ r. ⌜ r ≡ tally second w total 1 (bitsOf (drop 2 (now (body .entry)))) ⌝ }
+    ensures { λ r. ⌜ r ≡ outcome second w total 1 (bitsOf (drop 2 (now (body .entry)))) ⌝ }
 {
     let mut st = State {
         i: 1,

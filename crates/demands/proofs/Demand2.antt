@@ -25,5 +25,5 @@ demand2 =
       bits-in-order = reader.always;
       each-byte-once = reader.once;
       holds-25 = reader.at-least-25;
-      eight-in-hand = λ body c d f full n few. reader.enough-in-hand body c d f full n (omega (arith, few));
+      eight-held = λ body c d f full n few. reader.enough-held body c d f full n (omega (arith, few));
     }

@@ -15,7 +15,7 @@ use Rattle.bits.proofs.BitLaws.{pull-low, pull-short}
 use Rattle.grid.specs.Grid.{boxed}
 use Rattle.grid.proofs.Upd.{getD-upd}
 use Rattle.grid.proofs.Box.{cell-lt, boxed-in}
-use Rattle.strip.specs.Strip.{Strip, refused, pixels, go, runPixels, runOp, opOf, glue, decode}
+use Rattle.strip.specs.Strip.{Strip, refused, pixels, go, runPixels, runOp, opOf, prepend, decode}
 use Rattle.strip.specs.Strip as strip
 use Rattle.strip.specs.Picture.{sourceOf, upTo, placed, Picture, refusal, picture, kindOf, rawOf, shown, byKind, stripOf}
 use Rattle.strip.specs.declared.Kind.{Kind}
@@ -192,7 +192,7 @@ run-op : (w c s n m : ℕ) (l : List Bool) → RunGives n m → opOf true w c s 
 run-op w c s n m l gives = run-head w c s (lowBits 8 n ++ l) ∙ ap (runOp c s) (pull-low 8 8 n l (omega arith)) ∙ run-number c s n m l gives
 
 pub run-gives : (width k n m c step : ℕ) (l : List Bool) → RunGives n m
-    → (m ≤ k → decode true width k 0 c step (runHead ++ (lowBits 8 n ++ l)) ≡ glue (replicate m c) (decode true width (k - m) 0 c step l))
+    → (m ≤ k → decode true width k 0 c step (runHead ++ (lowBits 8 n ++ l)) ≡ prepend (replicate m c) (decode true width (k - m) 0 c step l))
     × (1 ≤ k → k < m → decode true width k 0 c step (runHead ++ (lowBits 8 n ++ l)) ≡ refused 8)
 run-gives width k n m c step l gives =
     let bits = runHead ++ (lowBits 8 n ++ l) in
@@ -203,7 +203,7 @@ run-gives width k n m c step l gives =
           let count : suc (m - 1) ≡ m = omega arith in
           ap (λ (j : ℕ). decode true width j 0 c step bits) whole
           ∙ decode-op true width c step bits (m - 1) (k - m) c step l op
-          ∙ ap (λ (j : ℕ). glue (replicate j c) (decode true width (k - m) 0 c step l)) count,
+          ∙ ap (λ (j : ℕ). prepend (replicate j c) (decode true width (k - m) 0 c step l)) count,
       λ one lt.
           let whole : k ≡ suc (k - 1) = omega arith in
           ap (λ (j : ℕ). decode true width j 0 c step bits) whole ∙ decode-past true width c step bits (m - 1) (k - 1) c step l op (omega arith),

@@ -15,7 +15,7 @@ use lib.ListN.{length, getD, take, drop, replicate}
 use Rattle.bits.specs.declared.Cursor.{Cursor}
 use Rattle.bits.specs.Bits.{lowBits, bitsOf, rest, Full}
 use Rattle.bits.specs.Reader.{Fetches, Reads}
-use Rattle.strip.specs.Strip.{Strip, refused, glue, decode}
+use Rattle.strip.specs.Strip.{Strip, refused, prepend, decode}
 use Rattle.strip.specs.Strip as strip
 use Rattle.strip.specs.Picture.{kindOf, sourceOf, refusal, picture, stripOf}
 use Rattle.strip.specs.declared.Kind.the-variants.{Coded}
@@ -89,7 +89,7 @@ pub record Demand2 : Type 0 where
   -- a run, wherever in a strip its bits stand, with k pixels still to come: it gives its pixels in the colour c, and the operations after it
   -- give the others; 8 where it is longer than what is to come
   pub run-gives : (width k n m c step : ℕ) (l : List Bool) → RunGives n m
-      → (m ≤ k → decode true width k 0 c step (runHead ++ (lowBits 8 n ++ l)) ≡ glue (replicate m c) (decode true width (k - m) 0 c step l))
+      → (m ≤ k → decode true width k 0 c step (runHead ++ (lowBits 8 n ++ l)) ≡ prepend (replicate m c) (decode true width (k - m) 0 c step l))
       × (1 ≤ k → k < m → decode true width k 0 c step (runHead ++ (lowBits 8 n ++ l)) ≡ refused 8)
   -- 7 where the number's 8 bits aren't there, however long a run it would be
   pub run-cut : (width k c step : ℕ) (l : List Bool) → 1 ≤ k → length l < 8 → decode true width k 0 c step (runHead ++ l) ≡ refused 7
@@ -97,11 +97,11 @@ pub record Demand2 : Type 0 where
   -- started before the byte `from` and, through any order of fetches and hand-outs, has handed out the bits l. What a start, a fetch and a hand-out
   -- are is said by `Starts`, `Fetches` and `Hands`, which crate bits' cursor promises (`new`, `filled`, `take`, `zeros`)
   pub bits-in-order : (body : List ℕ) (from : ℕ) (l : List Bool) (c : Cursor) → Reads body from l c
-      → bitsOf (drop from body) ≡ l ++ (lowBits (c .have) (c .hand) ++ bitsOf (drop (c .at) body))
+      → bitsOf (drop from body) ≡ l ++ (lowBits (c .bits) (c .hold) ++ bitsOf (drop (c .at) body))
   -- "each byte once": eight bits came in for each byte passed, and they are handed out or held
   pub each-byte-once : (body : List ℕ) (from : ℕ) (l : List Bool) (c : Cursor) → Reads body from l c
-      → (from ≤ c .at) × (8 * (c .at - from) ≡ length l + c .have)
+      → (from ≤ c .at) × (8 * (c .at - from) ≡ length l + c .bits)
   -- "it should fetch bytes until it holds at least 25 bits or the body ends": c becomes d by what `filled` promises
-  pub holds-25 : (body : List ℕ) (c d : Cursor) → Fetches body c d → Full body d → (25 ≤ d .have) ⊎ (d .at ≡ length body)
-  -- "and hand out up to 8 bits": after that, n bits are in hand unless fewer than n are left at all
-  pub eight-in-hand : (body : List ℕ) (c d : Cursor) → Fetches body c d → Full body d → (n : ℕ) → n ≤ 8 → n ≤ length (rest body d) → n ≤ d .have
+  pub holds-25 : (body : List ℕ) (c d : Cursor) → Fetches body c d → Full body d → (25 ≤ d .bits) ⊎ (d .at ≡ length body)
+  -- "and hand out up to 8 bits": after that, n bits are held unless fewer than n are left at all
+  pub eight-held : (body : List ℕ) (c d : Cursor) → Fetches body c d → Full body d → (n : ℕ) → n ≤ 8 → n ≤ length (rest body d) → n ≤ d .bits

@@ -1,7 +1,7 @@
 -- Laws of the table of objects: the walk over the OBCDs, the walk over the OBIMs, and what the filled table says.
 use mathlib.Core.Path.{_≡_, refl, ap, sym, _∙_, subst, subst⁻¹}
 use mathlib.Core.List.{List, [], _∷_}
-use mathlib.Core.Bool.{Bool, true, false, _&&_, cond}
+use mathlib.Core.Bool.{Bool, true, false, _&&_, cond, and-false}
 use mathlib.Core.Logic.{by-cases}
 use Prim.Native.Nat.{ℕ, zero, suc, _+_, _*_, _≤_, _<_}
 use native.Mathlib.Decide.{ℕ-discrete}
@@ -15,7 +15,6 @@ use Rattle.block.specs.Tag.{tag-OBCD, tag-OBIM}
 use Rattle.block.specs.Tree.{tagged, findTag, nthTag}
 use Rattle.block.specs.declared.Found.{Found}
 use Rattle.block.specs.declared.Found.the-variants.{At, Missing}
-use Rattle.block.proofs.Laws.{and-false}
 use Rattle.objects.specs.Object.{objectBlock}
 use Rattle.image.specs.Image.{objectCount, objectId, idAt, cdhdOf, imhdOf, hasId, headerHas, firstOf, imageBlock, homeX, homeY, imageWidth, imageHeight, imageCount}
 use Rattle.image.specs.Gathered.{startOf, endOf, rowFrom, rowWith, HasRow, Gathered, RowPut, Filled, Listed, RowOffered, Offered, Paired}
@@ -130,7 +129,7 @@ module _ (s t t' : List ℕ) (objects b z : ℕ) (offered : Offered s t t' objec
         record {
           image = At b' z';
           rest = rest;
-          row = λ c k. cell (At b' z') h c k ∙ rw (ne-eqb (b' + 8) 0 (λ e. omega arith), and-false (hasId s id (At b z)) false refl);
+          row = λ c k. cell (At b' z') h c k ∙ rw (ne-eqb (b' + 8) 0 (λ e. omega arith), and-false (hasId s id (At b z)));
         }
     reach-on Missing rest h = go (hasId s id (At b z)) refl
       where

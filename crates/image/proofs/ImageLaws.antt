@@ -1,17 +1,18 @@
 -- Laws of objects and their images: where they lie, and which states there are.
 use mathlib.Core.Path.{_≡_, refl, sym, _∙_, subst⁻¹}
 use mathlib.Core.List.{List, [], _∷_}
-use mathlib.Core.Bool.{Bool, true, false, _&&_, cond, not}
+use mathlib.Core.Bool.{Bool, true, false, _&&_, cond, not, and-false}
 use Prim.Native.Nat.{ℕ, suc, _+_, _-_, _≤_}
 use native.Mathlib.Omega.{arith}
 use lib.Dec.{leb}
 use lib.ListN.{getD, length}
 use borrow.Author.Tests.{ne-eqb, leb-true, not-true, not-false}
+use Rattle.number.proofs.BoolLaws.{and-left, and-right}
 use Rattle.block.specs.Tag.{tag-OBCD, tag-OBIM}
 use Rattle.block.specs.Tree.{tagged, nthTag, findTag, isAt, Inside}
 use Rattle.block.specs.declared.Found.{Found}
 use Rattle.block.specs.declared.Found.the-variants.{At, Missing}
-use Rattle.block.proofs.Laws.{nth-in, and-left, and-right, and-false}
+use Rattle.block.proofs.Laws.{nth-in}
 use Rattle.objects.specs.Object.{objectBlock}
 use Rattle.image.specs.Image.{objectCount, objectId, hasId, firstOf, imageBlock, tag-IM, stateIn, stateBlock, isObject, stateRight, imageCount, drawable}
 use Rattle.image.specs.Gathered.{startOf, endOf}
@@ -115,11 +116,11 @@ module _ (s : List ℕ) where
 
     pub drawable-state : (images : ℕ) → images ≡ imageCount s o → stateRight st images ≡ false → false ≡ drawable s o st
     unfolding drawable
-    drawable-state images e h = rw (← e, h, and-false (isObject s o && isAt (imageBlock s o)) false refl)
+    drawable-state images e h = rw (← e, h, and-false (isObject s o && isAt (imageBlock s o)))
 
     pub drawable-missing : Missing ≡ stateBlock s o st → false ≡ drawable s o st
     unfolding drawable
-    drawable-missing h = rw (← h, and-false (isObject s o && isAt (imageBlock s o) && stateRight st (imageCount s o)) false refl)
+    drawable-missing h = rw (← h, and-false (isObject s o && isAt (imageBlock s o) && stateRight st (imageCount s o)))
 
     pub drawable-at : (images b z : ℕ) → images ≡ imageCount s o → isObject s o ≡ true → stateRight st images ≡ true → At b z ≡ stateBlock s o st → true ≡ drawable s o st
     unfolding drawable stateBlock

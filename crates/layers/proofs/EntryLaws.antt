@@ -7,11 +7,12 @@ use native.Mathlib.Omega.{arith}
 use borrow.Author.Tests.{leb-true, eqb-true, ltb-true}
 use lib.Dec.{leb, ltb, eqb}
 use lib.ListN.{getD}
+use Rattle.number.proofs.BoolLaws.{and-left, and-right}
 use Rattle.block.specs.Tag.{tag-SMAP}
 use Rattle.block.specs.Tree.{findTag, isAt}
 use Rattle.block.specs.declared.Found.{Found}
 use Rattle.block.specs.declared.Found.the-variants.{At, Missing}
-use Rattle.block.proofs.Laws.{nth-at, and-left, and-right}
+use Rattle.block.proofs.Laws.{nth-at}
 use Rattle.grid.specs.Grid.{pick}
 use Rattle.table.specs.Body.{stripAt, pixelsOf}
 use Rattle.table.specs.declared.Test.the-variants.{Passed}

@@ -9,7 +9,7 @@ use native.Mathlib.Numerals.{add-one}
 use native.Mathlib.Omega.{arith}
 use lib.Dec.{eqb}
 use lib.ListN.{getD}
-use Rattle.block.proofs.Laws.{and-left, and-right}
+use Rattle.number.proofs.BoolLaws.{and-left, and-right}
 use Rattle.scene.specs.Painting.{every}
 use Rattle.layers.specs.Layer.{noneClear}
 

@@ -37,7 +37,7 @@ pub fn plane_rows(room: &[u8], m: Source, p: usize, j: usize, out: &mut [u8])
             table::read_rows(room, m.strips, height, b, z, j, out);
         }
         Found::Missing => {
-            strip::filling::fill(out, 0, height, 0);
+            number::buffer::fill(out, 0, height, 0);
         }
     }
 }

@@ -1,17 +1,18 @@
 -- What the bytes are after each limb below n is put: limb by limb, and byte by byte where a limb is put as it was.
 use mathlib.Core.Path.{_≡_, refl, ap, _∙_}
-use mathlib.Core.List.{List, [], _∷_}
+use mathlib.Core.List.{List}
 use mathlib.Core.Logic.{by-cases}
 use Prim.Native.Nat.{ℕ, zero, suc, _+_, _*_, _/_, _%_, _-_, _<_, _≤_}
 use native.Mathlib.Decide.{decLt, ℕ-discrete}
-use native.Mathlib.Nat.{div-add-mod', not-suc-le-zero, add-zero, le-of-suc-le-suc}
+use native.Mathlib.Nat.{div-add-mod', not-suc-le-zero, add-zero}
 use native.Mathlib.Omega.{arith}
-use lib.ListN.{length, getD, set, length-set}
-use lib.Seq.{sets, getD-set-same}
-use Rattle.number.specs.Number.{le32}
+use lib.ListN.{length, getD}
+use lib.Seq.{sets, length-sets}
+use Rattle.number.proofs.StoreLaws.{sets-below, sets-above, sets-in}
+use Rattle.number.specs.Number.{le32, le32Bytes}
 use Rattle.limbs.specs.declared.Limb.{Limb}
-use Rattle.limbs.specs.Limb.{limbAt, putLimb, headBytes, bytes32, eachLimb}
-use Rattle.limbs.proofs.LimbLaws.{sets-below, sets-above, put-below, put-above, length-each, each-above, limb-same}
+use Rattle.limbs.specs.Limb.{limbAt, putLimb, headBytes, eachLimb}
+use Rattle.limbs.proofs.LimbLaws.{put-below, put-above, length-each, each-above, limb-same}
 
 -- a list of bytes
 abbrev pub Bytes : List ℕ → Type 0
@@ -31,46 +32,40 @@ limb-small l i b =
       place = omega (arith, b (16 * i + 12), b (16 * i + 12 + 1), b (16 * i + 12 + 2), b (16 * i + 12 + 3));
     }
 
--- the k-th of a run of stores
-pub sets-in : (vs l : List ℕ) (i j k : ℕ) → j ≡ i + k → k < length vs → i + length vs ≤ length l → getD (sets l i vs) j 0 ≡ getD vs k 0
-sets-in [] l i j k e h f = absurd (not-suc-le-zero h)
-sets-in (v ∷ vs) l i j zero e h f = sets-below vs (set l i v) (suc i) j (omega arith) ∙ ap (λ (q : ℕ). getD (set l i v) q 0) (omega arith) ∙ getD-set-same l i v 0 (omega arith)
-sets-in (v ∷ vs) l i j (suc k) e h f = sets-in vs (set l i v) (suc i) j k (omega arith) (le-of-suc-le-suc h) (rw length-set (omega arith))
-
 -- ---- the bytes of a limb that is put
 module _ (l : List ℕ) (i : ℕ) (x : Limb) (fits : 16 * i + 16 ≤ length l) where
   abbrev head : List ℕ
   head = sets l (16 * i) (headBytes x)
 
   abbrev window : List ℕ
-  window = sets head (16 * i + 8) (bytes32 (x .start))
-
-  length-window : length window ≡ length l
-  length-window = simp length-set
+  window = sets head (16 * i + 8) (le32Bytes (x .start))
 
   length-head : length head ≡ length l
-  length-head = simp length-set
+  length-head = length-sets l (16 * i) (headBytes x)
+
+  length-window : length window ≡ length l
+  length-window = length-sets head (16 * i + 8) (le32Bytes (x .start)) ∙ length-head
 
   pub put-head : (j k : ℕ) → j ≡ 16 * i + k → k < 6 → getD (putLimb l i x) j 0 ≡ getD (headBytes x) k 0
-  unfolding putLimb
+  unfolding putLimb le32Bytes
   put-head j k e h =
-      sets-below (bytes32 (x .place)) window (16 * i + 12) j (omega arith) ∙ sets-below (bytes32 (x .start)) head (16 * i + 8) j (omega arith)
+      sets-below (le32Bytes (x .place)) window (16 * i + 12) j (omega arith) ∙ sets-below (le32Bytes (x .start)) head (16 * i + 8) j (omega arith)
       ∙ sets-in (headBytes x) l (16 * i) j k e h (omega arith)
 
   pub put-unused : (j : ℕ) → 16 * i + 6 ≤ j → j < 16 * i + 8 → getD (putLimb l i x) j 0 ≡ getD l j 0
-  unfolding putLimb
+  unfolding putLimb le32Bytes
   put-unused j a b =
-      sets-below (bytes32 (x .place)) window (16 * i + 12) j (omega arith) ∙ sets-below (bytes32 (x .start)) head (16 * i + 8) j b
+      sets-below (le32Bytes (x .place)) window (16 * i + 12) j (omega arith) ∙ sets-below (le32Bytes (x .start)) head (16 * i + 8) j b
       ∙ sets-above (headBytes x) l (16 * i) j (omega arith)
 
-  pub put-start : (j k : ℕ) → j ≡ 16 * i + 8 + k → k < 4 → getD (putLimb l i x) j 0 ≡ getD (bytes32 (x .start)) k 0
-  unfolding putLimb
+  pub put-start : (j k : ℕ) → j ≡ 16 * i + 8 + k → k < 4 → getD (putLimb l i x) j 0 ≡ getD (le32Bytes (x .start)) k 0
+  unfolding putLimb le32Bytes
   put-start j k e h =
-      sets-below (bytes32 (x .place)) window (16 * i + 12) j (omega arith) ∙ sets-in (bytes32 (x .start)) head (16 * i + 8) j k e h (omega (arith, length-head))
+      sets-below (le32Bytes (x .place)) window (16 * i + 12) j (omega arith) ∙ sets-in (le32Bytes (x .start)) head (16 * i + 8) j k e h (omega (arith, length-head))
 
-  pub put-place : (j k : ℕ) → j ≡ 16 * i + 12 + k → k < 4 → getD (putLimb l i x) j 0 ≡ getD (bytes32 (x .place)) k 0
-  unfolding putLimb
-  put-place j k e h = sets-in (bytes32 (x .place)) window (16 * i + 12) j k e h (omega (arith, length-window))
+  pub put-place : (j k : ℕ) → j ≡ 16 * i + 12 + k → k < 4 → getD (putLimb l i x) j 0 ≡ getD (le32Bytes (x .place)) k 0
+  unfolding putLimb le32Bytes
+  put-place j k e h = sets-in (le32Bytes (x .place)) window (16 * i + 12) j k e h (omega (arith, length-window))
 
 -- ---- a number and its four bytes
 pub four-back : (n : ℕ) → n < 4294967296 → n % 256 + n / 256 % 256 * 256 + n / 65536 % 256 * 65536 + n / 16777216 % 256 * 16777216 ≡ n
@@ -83,7 +78,8 @@ four-back n h =
     joined : (r0 r1 r2 r3 p q r : ℕ) → p * 256 + r0 ≡ n → q * 256 + r1 ≡ p → r * 256 + r2 ≡ q → r3 ≡ r → r0 + r1 * 256 + r2 * 65536 + r3 * 16777216 ≡ n
     joined r0 r1 r2 r3 p q r d e f g = omega arith
 
-pub four-of : (l : List ℕ) (at : ℕ) → Bytes l → (k : ℕ) → k < 4 → getD (bytes32 (le32 l at)) k 0 ≡ getD l (at + k) 0
+pub four-of : (l : List ℕ) (at : ℕ) → Bytes l → (k : ℕ) → k < 4 → getD (le32Bytes (le32 l at)) k 0 ≡ getD l (at + k) 0
+unfolding le32Bytes
 four-of l at b zero h = rw add-zero (omega (arith, b at, b (at + 1), b (at + 2), b (at + 3)))
 four-of l at b (suc zero) h = omega (arith, b at, b (at + 1), b (at + 2), b (at + 3))
 four-of l at b (suc (suc zero)) h = omega (arith, b at, b (at + 1), b (at + 2), b (at + 3))
@@ -96,7 +92,7 @@ limb-eq x y a b c d e f g h = λ i. record { active = a i; stopped = b i; noloop
 
 -- what is put is read back
 pub put-read : (l : List ℕ) (i : ℕ) (x : Limb) → 16 * i + 16 ≤ length l → Small x → limbAt (putLimb l i x) i ≡ x
-unfolding limbAt
+unfolding limbAt le32Bytes
 put-read l i x fits small =
     limb-eq _ x (put-head l i x fits (16 * i) 0 (omega arith) (omega arith))
     (put-head l i x fits (16 * i + 1) 1 refl (omega arith))
@@ -132,7 +128,7 @@ head-same l i (suc (suc (suc (suc (suc (suc k)))))) h = absurd (omega arith)
 
 module _ (l m : List ℕ) (i : ℕ) (x : Limb) (bytes : Bytes l) (same : x ≡ limbAt l i) (fits : 16 * i + 16 ≤ length m) where
   pub put-kept : (j : ℕ) → getD m j 0 ≡ getD l j 0 → getD (putLimb m i x) j 0 ≡ getD l j 0
-  unfolding limbAt
+  unfolding limbAt le32Bytes
   put-kept j was =
       by-cases (decLt j (16 * i)) (λ h. put-below m i x j h ∙ was)
       (λ a. by-cases (decLt j (16 * i + 6))
@@ -140,10 +136,10 @@ module _ (l m : List ℕ) (i : ℕ) (x : Limb) (bytes : Bytes l) (same : x ≡ l
       ∙ head-same l i (j - 16 * i) (omega arith) ∙ ap (λ (q : ℕ). getD l q 0) (omega arith))
       (λ b. by-cases (decLt j (16 * i + 8)) (λ h. put-unused m i x fits j (omega arith) h ∙ was)
       (λ c. by-cases (decLt j (16 * i + 12))
-      (λ h. put-start m i x fits j (j - (16 * i + 8)) (omega arith) (omega arith) ∙ ap (λ (y : Limb). getD (bytes32 (y .start)) (j - (16 * i + 8)) 0) same
+      (λ h. put-start m i x fits j (j - (16 * i + 8)) (omega arith) (omega arith) ∙ ap (λ (y : Limb). getD (le32Bytes (y .start)) (j - (16 * i + 8)) 0) same
       ∙ four-of l (16 * i + 8) bytes (j - (16 * i + 8)) (omega arith) ∙ ap (λ (q : ℕ). getD l q 0) (omega arith))
       (λ d. by-cases (decLt j (16 * i + 16))
-      (λ h. put-place m i x fits j (j - (16 * i + 12)) (omega arith) (omega arith) ∙ ap (λ (y : Limb). getD (bytes32 (y .place)) (j - (16 * i + 12)) 0) same
+      (λ h. put-place m i x fits j (j - (16 * i + 12)) (omega arith) (omega arith) ∙ ap (λ (y : Limb). getD (le32Bytes (y .place)) (j - (16 * i + 12)) 0) same
       ∙ four-of l (16 * i + 12) bytes (j - (16 * i + 12)) (omega arith) ∙ ap (λ (q : ℕ). getD l q 0) (omega arith))
       (λ e. put-above m i x j (omega arith) ∙ was)))))
 

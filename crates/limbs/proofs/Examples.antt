@@ -3,6 +3,7 @@ use mathlib.Core.Path.{_≡_, refl}
 use mathlib.Core.List.{List, [], _∷_, _++_}
 use Prim.Native.Nat.{ℕ, zero, suc}
 use lib.ListN.{replicate}
+use Rattle.number.specs.Number.{le32Bytes}
 use Rattle.limbs.specs.declared.Limb.{Limb}
 use Rattle.limbs.specs.declared.Drawn.the-variants.{Refused, Nothing, Picture}
 use Rattle.limbs.specs.Limb.{limbAt, putLimb, eachLimb, all, limbRight, limbsRight, draws, drawsNumber, drawnOf}
@@ -29,7 +30,7 @@ bytes a s k h p n from at = a ∷ s ∷ k ∷ h ∷ p ∷ n ∷ 7 ∷ 8 ∷ from
 
 -- a tick: limb 0 reads 12, a picture; limb 2 reads 13, a picture, at its last byte, and stays there
 ticking : tickBytes payload (lent (bytes 1 0 0 0 0 3 0 0) (bytes 1 0 1 1 5 2 3 4)) 30 ≡ lent (bytes 1 0 0 1 18 3 0 1) (bytes 1 0 1 1 19 2 3 4)
-unfolding lent bytes payload commands tickBytes tickNumber eachLimb putLimb tickedLimb obeyed movedOn limbsRight all limbRight limbAt
+unfolding lent bytes payload commands tickBytes tickNumber eachLimb putLimb le32Bytes tickedLimb obeyed movedOn limbsRight all limbRight limbAt
 ticking = refl
 
 -- a limb whose place is past its window is wrong

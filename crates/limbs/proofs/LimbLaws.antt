@@ -1,7 +1,7 @@
 -- Laws of the limbs' bytes: what a run of stores leaves, what a limb that is put leaves, and a test of every number below a bound.
 use mathlib.Core.Path.{_≡_, refl, ap, ap₂, _∙_}
-use mathlib.Core.Bool.{Bool, true, false, _&&_, _||_, not, cond}
-use mathlib.Core.List.{List, [], _∷_}
+use mathlib.Core.Bool.{Bool, true, false, _&&_, not, cond, and-false, or-true}
+use mathlib.Core.List.{List}
 use mathlib.Core.Logic.{by-cases}
 use Prim.Native.Nat.{ℕ, zero, suc, _+_, _*_, _-_, _<_, _≤_}
 use native.Mathlib.Decide.{decLt, ℕ-discrete}
@@ -9,32 +9,22 @@ use native.Mathlib.Nat.{not-suc-le-zero}
 use native.Mathlib.Omega.{arith}
 use borrow.Author.Tests.{lt-ltb, le-ltb, le-leb, lt-leb, leb-true, ltb-true, eq-eqb, ne-eqb}
 use lib.Dec.{ltb, leb}
-use lib.ListN.{length, getD, set, length-set}
-use lib.Seq.{sets, getD-set-other}
-use Rattle.number.specs.Number.{le32}
+use lib.ListN.{length, getD, length-set}
+use lib.Seq.{sets}
+use Rattle.number.proofs.StoreLaws.{sets-below, sets-above}
+use Rattle.number.proofs.BoolLaws.{both}
+use Rattle.number.specs.Number.{le32, le32Bytes}
 use Rattle.limbs.specs.declared.Limb.{Limb}
-use Rattle.limbs.specs.Limb.{flag, limbAt, putLimb, headBytes, bytes32, eachLimb, all, limbRight, draws, drawsNumber, drawnOf, drawnNumber}
+use Rattle.limbs.specs.Limb.{flag, limbAt, putLimb, headBytes, eachLimb, all, limbRight, draws, drawsNumber, drawnOf, drawnNumber}
 use Rattle.limbs.specs.declared.Drawn.{Drawn}
 use Rattle.limbs.specs.declared.Drawn.the-variants.{Refused, Nothing, Picture}
 
 -- ---- a test of every number below a bound
 
--- the two halves of a conjunction
-pub and-both : (a b : Bool) → (a && b) ≡ true → (a ≡ true) × (b ≡ true)
-and-both true b h = (refl, h)
-and-both false b h = (h, absurd (no h))
-  where
-    no : false ≡ true → ⊥
-    no e = let z : _≡_ {A = ℕ} 0 1 = cc in omega arith
-
-and-false : (a : Bool) → (a && false) ≡ false
-and-false true = refl
-and-false false = refl
-
 pub all-at : (n : ℕ) (t : ℕ → Bool) → all n t ≡ true → (i : ℕ) → i < n → t i ≡ true
 unfolding all
 all-at zero t h i l = absurd (not-suc-le-zero l)
-all-at (suc n) t h i l = by-cases (ℕ-discrete i n) (λ e. rw e (and-both (all n t) (t n) h .1)) (λ e. all-at n t (and-both (all n t) (t n) h .0) i (omega arith))
+all-at (suc n) t h i l = by-cases (ℕ-discrete i n) (λ e. rw e (both (all n t) (t n) h .1)) (λ e. all-at n t (both (all n t) (t n) h .0) i (omega arith))
 
 pub all-false : (n : ℕ) (t : ℕ → Bool) (i : ℕ) → i < n → t i ≡ false → all n t ≡ false
 unfolding all
@@ -60,38 +50,28 @@ as-difference a b n h =
     by-cases (decLt (n - b) a) (λ g. rw (lt-leb a (n - b) g, lt-leb (a + b) n (omega arith)))
     (λ g. rw (le-leb a (n - b) (omega arith), le-leb (a + b) n (omega arith)))
 
--- ---- a run of stores
-
-pub sets-below : (vs l : List ℕ) (i j : ℕ) → j < i → getD (sets l i vs) j 0 ≡ getD l j 0
-sets-below [] l i j h = refl
-sets-below (v ∷ vs) l i j h = sets-below vs (set l i v) (suc i) j (omega arith) ∙ getD-set-other l i j v 0 (λ e. omega arith)
-
-pub sets-above : (vs l : List ℕ) (i j : ℕ) → i + length vs ≤ j → getD (sets l i vs) j 0 ≡ getD l j 0
-sets-above [] l i j h = refl
-sets-above (v ∷ vs) l i j h = sets-above vs (set l i v) (suc i) j (omega arith) ∙ getD-set-other l i j v 0 (λ e. omega arith)
-
 -- ---- a limb that is put
 
 module _ (l : List ℕ) (i : ℕ) (x : Limb) where
   pub length-putLimb : length (putLimb l i x) ≡ length l
-  unfolding putLimb
+  unfolding putLimb le32Bytes
   length-putLimb = simp length-set
 
   -- the bytes of other limbs stay
   pub put-below : (j : ℕ) → j < 16 * i → getD (putLimb l i x) j 0 ≡ getD l j 0
-  unfolding putLimb
+  unfolding putLimb le32Bytes
   put-below j h =
       let a = sets l (16 * i) (headBytes x) in
-      let b = sets a (16 * i + 8) (bytes32 (x .start)) in
-      sets-below (bytes32 (x .place)) b (16 * i + 12) j (omega arith) ∙ sets-below (bytes32 (x .start)) a (16 * i + 8) j (omega arith)
+      let b = sets a (16 * i + 8) (le32Bytes (x .start)) in
+      sets-below (le32Bytes (x .place)) b (16 * i + 12) j (omega arith) ∙ sets-below (le32Bytes (x .start)) a (16 * i + 8) j (omega arith)
       ∙ sets-below (headBytes x) l (16 * i) j h
 
   pub put-above : (j : ℕ) → 16 * i + 16 ≤ j → getD (putLimb l i x) j 0 ≡ getD l j 0
-  unfolding putLimb
+  unfolding putLimb le32Bytes
   put-above j h =
       let a = sets l (16 * i) (headBytes x) in
-      let b = sets a (16 * i + 8) (bytes32 (x .start)) in
-      sets-above (bytes32 (x .place)) b (16 * i + 12) j (omega arith) ∙ sets-above (bytes32 (x .start)) a (16 * i + 8) j (omega arith)
+      let b = sets a (16 * i + 8) (le32Bytes (x .start)) in
+      sets-above (le32Bytes (x .place)) b (16 * i + 12) j (omega arith) ∙ sets-above (le32Bytes (x .start)) a (16 * i + 8) j (omega arith)
       ∙ sets-above (headBytes x) l (16 * i) j (omega arith)
 
 -- a limb is what its bytes say
@@ -160,20 +140,6 @@ pub limb-read : (l : List ℕ) (i s p : ℕ)
 unfolding limbAt
 limb-read l i s p a b = rw (a, b)
 
--- stores at n, n + 1, .. are a run of stores
-pub stores : (l : List ℕ) (n a b c d : ℕ) → set (set (set (set l n a) (n + 1) b) (n + 2) c) (n + 3) d ≡ sets l n (a ∷ b ∷ c ∷ d ∷ [])
-stores l n a b c d =
-    let e1 : n + 1 ≡ suc n = omega arith in
-    let e2 : n + 2 ≡ suc (suc n) = omega arith in
-    let e3 : n + 3 ≡ suc (suc (suc n)) = omega arith in
-    rw (e1, e2, e3)
-
-pub stores-on : (l : List ℕ) (n a b c d e f : ℕ) → set (set (set (set (set (set l n a) (n + 1) b) (n + 2) c) (n + 3) d) (n + 4) e) (n + 5) f ≡ sets l n (a ∷ b ∷ c ∷ d ∷ e ∷ f ∷ [])
-stores-on l n a b c d e f =
-    let e4 : n + 4 ≡ suc (suc (suc (suc n))) = omega arith in
-    let e5 : n + 5 ≡ suc (suc (suc (suc (suc n)))) = omega arith in
-    rw (stores l n a b c d, e4, e5)
-
 -- ---- a lent limb that is right
 
 -- a limb as the code tests it
@@ -208,10 +174,10 @@ module _ (n : ℕ) (x : Limb) where
       let t4 = leb (x .start) (x .place) in
       let t5 = ltb (x .place) (x .start + x .len) in
       let all : (t1 && t2 && t3 && t4 && t5) ≡ true = rw (ne-eqb _ _ h) at e in
-      let a = and-both (t1 && t2 && t3 && t4) t5 all in
-      let b = and-both (t1 && t2 && t3) t4 (a .0) in
-      let c = and-both (t1 && t2) t3 (b .0) in
-      let d = and-both t1 t2 (c .0) in
+      let a = both (t1 && t2 && t3 && t4) t5 all in
+      let b = both (t1 && t2 && t3) t4 (a .0) in
+      let c = both (t1 && t2) t3 (b .0) in
+      let d = both t1 t2 (c .0) in
       record {
         some = leb-true 1 (x .len) (d .0);
         few = leb-true (x .len) 128 (d .1);
@@ -231,10 +197,6 @@ module _ (n : ℕ) (x : Limb) where
         lt-ltb (x .place) (x .start + x .len) (h .to),
       )
       (or-true (not (flag (x .active))))
-    where
-      or-true : (b : Bool) → (b || true) ≡ true
-      or-true true = refl
-      or-true false = refl
 
 -- ---- the question whether a limb draws
 

@@ -10,10 +10,11 @@ use borrow.Author.Tests.{lt-ltb, le-ltb, leb-true, ltb-true, ltb-false, eq-eqb, 
 use lib.Dec.{ltb, leb, eqb}
 use lib.ListN.{length, getD, drop, length-drop}
 use lib.Seq.{getD-drop}
+use Rattle.number.proofs.BoolLaws.{both}
 use Rattle.limbs.specs.declared.Limb.{Limb}
 use Rattle.limbs.specs.Limb.{flag, eachLimb, limbsRight, limbRight}
 use Rattle.limbs.specs.Tick.{commandRight, stream, withStopped, withPicture, withPlace, obeyed, movedOn, tickedLimb, tickNumber, tickBytes}
-use Rattle.limbs.proofs.LimbLaws.{and-both, RightIn, right-in, right-from}
+use Rattle.limbs.proofs.LimbLaws.{RightIn, right-in, right-from}
 
 -- a byte leaves its limb's window and place
 pub record SameWindow (x y : Limb) : Type 0 where
@@ -88,7 +89,7 @@ module _ (s l : List ℕ) (v : ℕ) where
 
 -- a command offset that is right
 pub command-in : (s : List ℕ) (v : ℕ) → commandRight s v ≡ true → (6 ≤ v) × (v - 6 ≤ length s)
-command-in s v h = let b = and-both (leb 6 v) (leb (v - 6) (length s)) h in (leb-true _ _ (b .0), leb-true _ _ (b .1))
+command-in s v h = let b = both (leb 6 v) (leb (v - 6) (length s)) h in (leb-true _ _ (b .0), leb-true _ _ (b .1))
 
 -- what an accepted tick has
 pub record Ticks (s l : List ℕ) (v : ℕ) : Type 0 where

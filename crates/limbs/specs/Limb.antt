@@ -3,11 +3,11 @@
 -- Start and place are indexes into the command stream. A byte past the end of a list counts as 0.
 use mathlib.Core.Bool.{Bool, true, _&&_, _||_, not, cond}
 use mathlib.Core.List.{List, [], _∷_}
-use Prim.Native.Nat.{ℕ, zero, suc, _+_, _*_, _/_, _%_}
+use Prim.Native.Nat.{ℕ, zero, suc, _+_, _*_}
 use lib.ListN.{length, getD}
 use lib.Seq.{sets}
 use lib.Dec.{ltb, leb, eqb}
-use Rattle.number.specs.Number.{le32}
+use Rattle.number.specs.Number.{le32, le32Bytes}
 use Rattle.limbs.specs.declared.Limb.{Limb}
 use Rattle.limbs.specs.declared.Drawn.{Drawn}
 use Rattle.limbs.specs.declared.Drawn.the-variants.{Refused, Nothing, Picture}
@@ -34,13 +34,10 @@ limbAt l i =
 abbrev pub headBytes : Limb → List ℕ
 headBytes x = x .active ∷ x .stopped ∷ x .noloop ∷ x .shows ∷ x .picture ∷ x .len ∷ []
 
--- a number's four low bytes, the lowest first. Start and place are below 2^32 in any payload of a block, whose size is a u32.
-abbrev pub bytes32 : ℕ → List ℕ
-bytes32 n = n % 256 ∷ n / 256 % 256 ∷ n / 65536 % 256 ∷ n / 16777216 % 256 ∷ []
-
--- the bytes with limb i replaced: every byte that is not one of its 14 stays
+-- the bytes with limb i replaced: every byte that is not one of its 14 stays. Start and place are below 2^32 in any payload of a block, whose size
+-- is a u32.
 unfoldable pub putLimb : List ℕ → ℕ → Limb → List ℕ
-putLimb l i x = sets (sets (sets l (16 * i) (headBytes x)) (16 * i + 8) (bytes32 (x .start))) (16 * i + 12) (bytes32 (x .place))
+putLimb l i x = sets (sets (sets l (16 * i) (headBytes x)) (16 * i + 8) (le32Bytes (x .start))) (16 * i + 12) (le32Bytes (x .place))
 
 -- the bytes with each limb i below n replaced by f i of it
 unfoldable pub eachLimb : (ℕ → Limb → Limb) → ℕ → List ℕ → List ℕ

@@ -16,13 +16,43 @@ stream s v = drop (v - 6) s
 
 -- the limb with its stopped byte, its picture or its place changed
 abbrev pub withStopped : ℕ → Limb → Limb
-withStopped b x = record { active = x .active; stopped = b; noloop = x .noloop; shows = x .shows; picture = x .picture; len = x .len; start = x .start; place = x .place }
+withStopped b x =
+    record {
+      active = x .active;
+      stopped = b;
+      noloop = x .noloop;
+      shows = x .shows;
+      picture = x .picture;
+      len = x .len;
+      start = x .start;
+      place = x .place;
+    }
 
 abbrev pub withPicture : ℕ → Limb → Limb
-withPicture b x = record { active = x .active; stopped = x .stopped; noloop = x .noloop; shows = 1; picture = b; len = x .len; start = x .start; place = x .place }
+withPicture b x =
+    record {
+      active = x .active;
+      stopped = x .stopped;
+      noloop = x .noloop;
+      shows = 1;
+      picture = b;
+      len = x .len;
+      start = x .start;
+      place = x .place;
+    }
 
 abbrev pub withPlace : ℕ → Limb → Limb
-withPlace p x = record { active = x .active; stopped = x .stopped; noloop = x .noloop; shows = x .shows; picture = x .picture; len = x .len; start = x .start; place = p }
+withPlace p x =
+    record {
+      active = x .active;
+      stopped = x .stopped;
+      noloop = x .noloop;
+      shows = x .shows;
+      picture = x .picture;
+      len = x .len;
+      start = x .start;
+      place = p;
+    }
 
 -- what a byte does to its limb: 79 stops, 7A un-stops, others of 71 to 7C do nothing, else it is the picture
 unfoldable pub obeyed : ℕ → Limb → Limb

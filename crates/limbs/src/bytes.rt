@@ -4,9 +4,12 @@ ghost use Prim.Native.Nat.{_+_, _*_, _≤_};
 ghost use lib.ListN.{length};
 ghost use lib.Seq.{sets};
 ghost use lib.Dec.{leb};
-ghost use Rattle.limbs.specs.Limb.{limbAt, putLimb, headBytes, bytes32, limbRight, limbsRight, draws};
+ghost use Rattle.limbs.specs.Limb.{limbAt, putLimb, headBytes, limbRight, limbsRight, draws};
 use crate::Drawn;
 use crate::Limb;
+use number::buffer::put_four;
+use number::buffer::put_two;
+use number::put_le32;
 use number::read_le32;
 use number::wide;
 
@@ -35,23 +38,15 @@ fn put_head(limbs: &mut [u8], at: usize, limb: Limb)
     requires { ⌜ at + 6 ≤ length (now limbs) ⌝ }
     ensures { λ _. ⌜ now (limbs .exit) ≡ sets (now (limbs .entry)) at (headBytes limb) ⌝ }
 {
-    limbs[at] = limb.active;
-    limbs[at + 1] = limb.stopped;
-    limbs[at + 2] = limb.noloop;
-    limbs[at + 3] = limb.shows;
-    limbs[at + 4] = limb.picture;
-    limbs[at + 5] = limb.len;
-}
-
-// Writes a number's low 32 bits, the lowest byte first.
-fn put_le32(limbs: &mut [u8], at: usize, x: usize)
-    requires { ⌜ at + 4 ≤ length (now limbs) ⌝ }
-    ensures { λ _. ⌜ now (limbs .exit) ≡ sets (now (limbs .entry)) at (bytes32 x) ⌝ }
-{
-    limbs[at] = (x % 256) as u8;
-    limbs[at + 1] = (x / 256 % 256) as u8;
-    limbs[at + 2] = (x / 65536 % 256) as u8;
-    limbs[at + 3] = (x / 16777216 % 256) as u8;
+    put_four(
+        limbs,
+        at,
+        limb.active,
+        limb.stopped,
+        limb.noloop,
+        limb.shows,
+    );
+    put_two(limbs, at + 4, limb.picture, limb.len);
 }
 
 // Writes limb i; its two bytes that are not used stay.

@@ -24,7 +24,7 @@ pub fn empty_session(session: &mut [u8])
     requires { ⌜ 450 ≤ length (now session) ⌝ }
     ensures { λ _. ⌜ now (session .exit) ≡ emptied (now (session .entry)) ⌝ }
 {
-    strip::filling::fill(session, 0, 450, 0);
+    number::buffer::fill(session, 0, 450, 0);
 }
 
 // Paints the background of a room that passes the test.

@@ -93,5 +93,5 @@ pub fn clear_plane(n: usize, h: usize, planes: usize, plane: usize, masks: &mut 
     requires { ⌜ (n ≤ 128) × (h ≤ 200) × (planes ≤ 4) × (1 ≤ plane) × (plane ≤ planes) × (n * (planes * h) ≤ length (now masks)) ⌝ }
     ensures { λ _. ⌜ now (masks .exit) ≡ upd (boxed n 0 ((plane - 1) * h) n h (λ s y o. 0)) (now (masks .entry)) ⌝ }
 {
-    strip::filling::fill(masks, (plane - 1) * h * n, h * n, 0);
+    number::buffer::fill(masks, (plane - 1) * h * n, h * n, 0);
 }

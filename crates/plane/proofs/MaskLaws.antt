@@ -1,52 +1,52 @@
 -- Laws of the rows of a mask strip: an operation, what it gives, and going on from one place to the next.
 use mathlib.Core.Path.{_≡_, refl, sym, ap, ap₂, _∙_, subst}
-use mathlib.Core.List.{List, [], _∷_, _++_, append-nil, append-assoc}
+use mathlib.Core.List.{List, [], _∷_, _++_, append-nil}
 use Prim.Native.Nat.{ℕ, zero, suc, _+_, _-_, _≤_, _<_}
 use native.Mathlib.Nat.{not-suc-le-zero, sub-zero}
 use native.Mathlib.Numerals.{add-one}
 use native.Mathlib.Omega.{arith}
 use borrow.Author.Tests.{lt-ltb, le-ltb}
-use lib.ListN.{length, take, drop, set, replicate, getD, length-drop, drop-of-length-le}
-use lib.Seq.{drop-cons, drop-drop, take-suc, take-suc-set, getD-drop}
+use lib.ListN.{length, take, drop, replicate, getD, length-drop, drop-of-length-le}
+use lib.Seq.{drop-cons, drop-drop}
 use Rattle.strip.specs.declared.Made.{Made}
 use Rattle.strip.specs.declared.Made.the-variants.{All}
-use Rattle.strip.specs.Strip.{Strip, refused, pixels, madeOf, onto, glue, Filled}
-use Rattle.strip.proofs.StripLaws.{glue-none, glue-onto, glue-glue, made-glue}
+use Rattle.strip.specs.Strip.{Strip, refused, pixels, madeOf, onto, prepend, Filled}
+use Rattle.strip.proofs.StripLaws.{prepend-none, prepend-onto, prepend-prepend, made-prepend}
 use Rattle.plane.specs.declared.Rows.{Rows}
 use Rattle.plane.specs.declared.Rows.the-variants.{Literals, Copies, Refuse}
-use Rattle.plane.specs.Mask.{Owed, literals, copies, Plan, past, owe, planOf, rowsOf, RowsAt}
+use Rattle.plane.specs.Mask.{Pending, literals, copies, Plan, past, leaves, planOf, rowsOf, RowsAt}
 
 plan-past-literals : (k op : ℕ) → op < 0x80 → k < op → planOf k op ≡ past
 plan-past-literals k op a b = rw (lt-ltb op 0x80 a, lt-ltb k op b)
 
-pub plan-literals : (k op : ℕ) → op < 0x80 → op ≤ k → planOf k op ≡ owe (literals op)
+pub plan-literals : (k op : ℕ) → op < 0x80 → op ≤ k → planOf k op ≡ leaves (literals op)
 plan-literals k op a b = rw (lt-ltb op 0x80 a, le-ltb k op b)
 
 plan-past-copies : (k op : ℕ) → 0x80 ≤ op → k < op - 0x80 → planOf k op ≡ past
 plan-past-copies k op a b = rw (le-ltb op 0x80 a, lt-ltb k (op - 0x80) b)
 
-pub plan-copies : (k op : ℕ) → 0x80 ≤ op → op - 0x80 ≤ k → planOf k op ≡ owe (copies (op - 0x80))
+pub plan-copies : (k op : ℕ) → 0x80 ≤ op → op - 0x80 ≤ k → planOf k op ≡ leaves (copies (op - 0x80))
 plan-copies k op a b = rw (le-ltb op 0x80 a, le-ltb k (op - 0x80) b)
 
-pub rows-done : (t : List ℕ) (n : ℕ) (p : Owed) → n ≡ 0 → rowsOf t n p ≡ pixels []
+pub rows-done : (t : List ℕ) (n : ℕ) (p : Pending) → n ≡ 0 → rowsOf t n p ≡ pixels []
 unfolding rowsOf
 rows-done [] zero p e = refl
 rows-done (b ∷ t) zero p e = refl
 rows-done t (suc n) p e = absurd (omega arith)
 
-rows-end : (t : List ℕ) (n : ℕ) (p : Owed) → 0 < n → t ≡ [] → rowsOf t n p ≡ refused 7
+rows-end : (t : List ℕ) (n : ℕ) (p : Pending) → 0 < n → t ≡ [] → rowsOf t n p ≡ refused 7
 unfolding rowsOf
 rows-end t zero p h e = absurd (not-suc-le-zero h)
 rows-end t (suc n) p h e = ap (λ (y : List ℕ). rowsOf y (suc n) p) e
 
 module _ (t u : List ℕ) (b : ℕ) (e : t ≡ b ∷ u) where
-  pub rows-op : (n lit : ℕ) (p : Owed) → 0 < n → lit ≤ 0 → planOf n b ≡ owe p → rowsOf t n (literals lit) ≡ rowsOf u n p
+  pub rows-op : (n lit : ℕ) (p : Pending) → 0 < n → lit ≤ 0 → planOf n b ≡ leaves p → rowsOf t n (literals lit) ≡ rowsOf u n p
   unfolding rowsOf
   rows-op zero lit p h l f = absurd (not-suc-le-zero h)
   rows-op (suc n) (suc lit) p h l f = absurd (not-suc-le-zero l)
   rows-op (suc n) zero p h l f =
       ap (λ (y : List ℕ). rowsOf y (suc n) (literals zero)) e
-      ∙ ap (λ (q : Plan). elim q as (λ _. Strip) [ past ↦ refused 8 | owe r ↦ rowsOf u (suc n) r ]) f
+      ∙ ap (λ (q : Plan). elim q as (λ _. Strip) [ past ↦ refused 8 | leaves r ↦ rowsOf u (suc n) r ]) f
 
   rows-past : (n lit : ℕ) → 0 < n → lit ≤ 0 → planOf n b ≡ past → rowsOf t n (literals lit) ≡ refused 8
   unfolding rowsOf
@@ -54,9 +54,9 @@ module _ (t u : List ℕ) (b : ℕ) (e : t ≡ b ∷ u) where
   rows-past (suc n) (suc lit) h l f = absurd (not-suc-le-zero l)
   rows-past (suc n) zero h l f =
       ap (λ (y : List ℕ). rowsOf y (suc n) (literals zero)) e
-      ∙ ap (λ (q : Plan). elim q as (λ _. Strip) [ past ↦ refused 8 | owe r ↦ rowsOf u (suc n) r ]) f
+      ∙ ap (λ (q : Plan). elim q as (λ _. Strip) [ past ↦ refused 8 | leaves r ↦ rowsOf u (suc n) r ]) f
 
-  pub rows-copies : (n m : ℕ) → 0 < n → rowsOf t n (copies m) ≡ glue (replicate m b) (rowsOf u (n - m) (literals 0))
+  pub rows-copies : (n m : ℕ) → 0 < n → rowsOf t n (copies m) ≡ prepend (replicate m b) (rowsOf u (n - m) (literals 0))
   unfolding rowsOf
   rows-copies zero m h = absurd (not-suc-le-zero h)
   rows-copies (suc n) m h = ap (λ (y : List ℕ). rowsOf y (suc n) (copies m)) e
@@ -67,19 +67,19 @@ from-at s at h = rw (add-one, drop-cons s at 0 h)
 
 -- ---- literal rows
 
-rows-literals : (n k : ℕ) (t : List ℕ) → n ≤ k → n ≤ length t → rowsOf t k (literals n) ≡ glue (take n t) (rowsOf (drop n t) (k - n) (literals 0))
+rows-literals : (n k : ℕ) (t : List ℕ) → n ≤ k → n ≤ length t → rowsOf t k (literals n) ≡ prepend (take n t) (rowsOf (drop n t) (k - n) (literals 0))
 unfolding rowsOf
-rows-literals zero k t le room = glue-none (rowsOf t k (literals 0)) ∙ ap (λ (j : ℕ). glue [] (rowsOf t j (literals 0))) (sym (sub-zero k))
+rows-literals zero k t le room = prepend-none (rowsOf t k (literals 0)) ∙ ap (λ (j : ℕ). prepend [] (rowsOf t j (literals 0))) (sym (sub-zero k))
 rows-literals (suc n) zero t le room = absurd (not-suc-le-zero le)
 rows-literals (suc n) (suc k) [] le room = absurd (not-suc-le-zero room)
 rows-literals (suc n) (suc k) (b ∷ t) le room =
     let same : k - n ≡ suc k - suc n = omega arith in
     let later = rowsOf (drop n t) (k - n) (literals 0) in
     ap (onto b) (rows-literals n k t (omega arith) (omega arith))
-    ∙ glue-none (onto b (glue (take n t) later))
-    ∙ glue-onto [] b (glue (take n t) later)
-    ∙ glue-glue (b ∷ []) (take n t) later
-    ∙ ap (λ (j : ℕ). glue (b ∷ take n t) (rowsOf (drop n t) j (literals 0))) same
+    ∙ prepend-none (onto b (prepend (take n t) later))
+    ∙ prepend-onto [] b (prepend (take n t) later)
+    ∙ prepend-prepend (b ∷ []) (take n t) later
+    ∙ ap (λ (j : ℕ). prepend (b ∷ take n t) (rowsOf (drop n t) j (literals 0))) same
 
 rows-short : (n k : ℕ) (t : List ℕ) → n ≤ k → length t < n → rowsOf t k (literals n) ≡ refused 7
 unfolding rowsOf
@@ -107,8 +107,8 @@ module _ (s : List ℕ) (at k : ℕ) (pos : 1 ≤ k) where
     size : length u ≡ length s - (at + 1)
     size = length-drop (at + 1) s
 
-    owes : (p : Owed) → planOf k op ≡ owe p → rowsOf (drop at s) k (literals 0) ≡ rowsOf u k p
-    owes p e = rows-op (drop at s) u op starts k 0 p pos (omega arith) e
+    asks : (p : Pending) → planOf k op ≡ leaves p → rowsOf (drop at s) k (literals 0) ≡ rowsOf u k p
+    asks p e = rows-op (drop at s) u op starts k 0 p pos (omega arith) e
 
     passes : planOf k op ≡ past → RowsAt s at k (Refuse 8)
     passes e = rows-past (drop at s) u op starts k 0 pos (omega arith) e
@@ -117,15 +117,15 @@ module _ (s : List ℕ) (at k : ℕ) (pos : 1 ≤ k) where
     at-past-literals low h = passes (plan-past-literals k op low h)
 
     pub at-short-literals : op < 0x80 → op ≤ k → length s - at - 1 < op → RowsAt s at k (Refuse 7)
-    at-short-literals low le few = owes (literals op) (plan-literals k op low le) ∙ rows-short op k u le (omega (arith, size))
+    at-short-literals low le few = asks (literals op) (plan-literals k op low le) ∙ rows-short op k u le (omega (arith, size))
 
     pub at-literals : op < 0x80 → op ≤ k → op ≤ length s - at - 1 → RowsAt s at k (Literals op)
     at-literals low le room = (
       le,
       omega arith,
-      owes (literals op) (plan-literals k op low le)
+      asks (literals op) (plan-literals k op low le)
           ∙ rows-literals op k u le (omega (arith, size))
-          ∙ ap (λ (t : List ℕ). glue (take op u) (rowsOf t (k - op) (literals 0))) (drop-drop op (at + 1) s),
+          ∙ ap (λ (t : List ℕ). prepend (take op u) (rowsOf t (k - op) (literals 0))) (drop-drop op (at + 1) s),
     )
 
     pub at-past-copies : 0x80 ≤ op → k < op - 0x80 → RowsAt s at k (Refuse 8)
@@ -134,7 +134,7 @@ module _ (s : List ℕ) (at k : ℕ) (pos : 1 ≤ k) where
     pub at-short-copies : 0x80 ≤ op → op - 0x80 ≤ k → length s - at - 1 < 1 → RowsAt s at k (Refuse 7)
     at-short-copies high le few =
         let end : length s ≤ at + 1 = omega arith in
-        owes (copies (op - 0x80)) (plan-copies k op high le) ∙ rows-end u k (copies (op - 0x80)) pos (drop-of-length-le s end)
+        asks (copies (op - 0x80)) (plan-copies k op high le) ∙ rows-end u k (copies (op - 0x80)) pos (drop-of-length-le s end)
 
     pub at-copies : 0x80 ≤ op → op - 0x80 ≤ k → 1 ≤ length s - at - 1 → RowsAt s at k (Copies (op - 0x80))
     at-copies high le room =
@@ -142,49 +142,33 @@ module _ (s : List ℕ) (at k : ℕ) (pos : 1 ≤ k) where
         let b = getD s (at + 1) 0 in (
           le,
           omega arith,
-          owes (copies (op - 0x80)) (plan-copies k op high le)
+          asks (copies (op - 0x80)) (plan-copies k op high le)
               ∙ rows-copies u (drop (at + 1 + 1) s) b (from-at s (at + 1) (omega arith)) k (op - 0x80) pos
-              ∙ ap (λ (j : ℕ). glue (replicate (op - 0x80) b) (rowsOf (drop j s) (k - (op - 0x80)) (literals 0))) next,
+              ∙ ap (λ (j : ℕ). prepend (replicate (op - 0x80) b) (rowsOf (drop j s) (k - (op - 0x80)) (literals 0))) next,
         )
 
 pub rows-as : (s : List ℕ) (at k : ℕ) {r r′ : Rows} → r ≡ r′ → RowsAt s at k r → RowsAt s at k r′
 rows-as s at k e h = subst (λ r. RowsAt s at k r) e h
 
--- ---- the rows as they are copied
-
-pub copy-store : (out d s : List ℕ) (from to k : ℕ) → to + k < length out → from + k < length s → take (to + k) out ≡ take to d ++ take k (drop from s)
-    → take (to + (k + 1)) (set out (to + k) (getD s (from + k) 0)) ≡ take to d ++ take (k + 1) (drop from s)
-copy-store out d s from to k room there e =
-    let b = getD s (from + k) 0 in
-    let on : to + (k + 1) ≡ suc (to + k) = omega arith in
-    let left : k < length (drop from s) = omega (arith, length-drop from s) in
-    let more : take (k + 1) (drop from s) ≡ take k (drop from s) ++ (b ∷ []) =
-    rw (add-one, ← getD-drop from s k 0) (take-suc (drop from s) k 0 left) in
-    ap (λ (m : ℕ). take m (set out (to + k) b)) on
-    ∙ take-suc-set {A = ℕ} out (to + k) b room
-    ∙ ap (λ (p : List ℕ). p ++ (b ∷ [])) e
-    ∙ append-assoc (take to d) (take k (drop from s)) (b ∷ [])
-    ∙ ap (λ (p : List ℕ). take to d ++ p) (sym more)
-
 -- ---- going on from the bytes t to the bytes u, past the rows xs
 
-module _ (t u xs : List ℕ) (k n : ℕ) (gives : rowsOf t k (literals 0) ≡ glue xs (rowsOf u (k - n) (literals 0))) where
-  pub painted-on : (x : Strip) (out out′ : List ℕ) (h i : ℕ) → k ≡ h - i → x ≡ glue (take i out) (rowsOf t k (literals 0)) → take (i + n) out′ ≡ take i out ++ xs
-      → x ≡ glue (take (i + n) out′) (rowsOf u (h - (i + n)) (literals 0))
+module _ (t u xs : List ℕ) (k n : ℕ) (gives : rowsOf t k (literals 0) ≡ prepend xs (rowsOf u (k - n) (literals 0))) where
+  pub painted-on : (x : Strip) (out out′ : List ℕ) (h i : ℕ) → k ≡ h - i → x ≡ prepend (take i out) (rowsOf t k (literals 0)) → take (i + n) out′ ≡ take i out ++ xs
+      → x ≡ prepend (take (i + n) out′) (rowsOf u (h - (i + n)) (literals 0))
   painted-on x out out′ h i e so-far stored =
       let left : k - n ≡ h - (i + n) = omega arith in
       so-far
-      ∙ ap (glue (take i out)) gives
-      ∙ glue-glue (take i out) xs (rowsOf u (k - n) (literals 0))
-      ∙ ap₂ (λ (q : List ℕ) (j : ℕ). glue q (rowsOf u j (literals 0))) (sym stored) left
+      ∙ ap (prepend (take i out)) gives
+      ∙ prepend-prepend (take i out) xs (rowsOf u (k - n) (literals 0))
+      ∙ ap₂ (λ (q : List ℕ) (j : ℕ). prepend q (rowsOf u j (literals 0))) (sym stored) left
 
   pub tested-on : (m : Made) → m ≡ madeOf (rowsOf t k (literals 0)) → m ≡ madeOf (rowsOf u (k - n) (literals 0))
-  tested-on m so-far = so-far ∙ ap madeOf gives ∙ made-glue xs (rowsOf u (k - n) (literals 0))
+  tested-on m so-far = so-far ∙ ap madeOf gives ∙ made-prepend xs (rowsOf u (k - n) (literals 0))
 
-pub rows-all : (t : List ℕ) (p : Owed) (i h : ℕ) (out d : List ℕ) (x : Strip) → i ≡ h → x ≡ glue (take i out) (rowsOf t (h - i) p) → drop i out ≡ drop i d → Filled h x d out All
+pub rows-all : (t : List ℕ) (p : Pending) (i h : ℕ) (out d : List ℕ) (x : Strip) → i ≡ h → x ≡ prepend (take i out) (rowsOf t (h - i) p) → drop i out ≡ drop i d → Filled h x d out All
 rows-all t p i h out d x e f g = (
   f
-      ∙ ap (glue (take i out)) (rows-done t (h - i) p (omega arith))
+      ∙ ap (prepend (take i out)) (rows-done t (h - i) p (omega arith))
       ∙ ap pixels (append-nil (take i out))
       ∙ ap (λ (m : ℕ). pixels (take m out)) e,
   rw e at g,

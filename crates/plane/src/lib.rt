@@ -5,8 +5,9 @@ ghost use Prim.Native.Nat.{_+_, _≤_};
 ghost use lib.ListN.{length, take, drop};
 ghost use Rattle.strip.specs.Strip.{madeOf, Filled};
 ghost use Rattle.plane.specs.Mask.{rowsOf, literals, RowsAt};
+use number::buffer::copy;
+use number::buffer::fill;
 use strip::Made;
-use strip::filling::fill;
 
 // What the operation at a place asks: so many literal rows, so many copies of one byte, or a refusal. Its data starts at the byte after it.
 pub enum Rows {
@@ -43,18 +44,6 @@ fn rows_at(body: &[u8], at: usize, left: usize) -> Rows
         return Rows::Refuse(7);
     }
     Rows::Copies(n)
-}
-
-// n bytes of `body` from `from` on into `out` from `to` on.
-fn copy(body: &[u8], from: usize, n: usize, out: &mut [u8], to: usize)
-    requires { ⌜ (from + n ≤ length (now body)) × (to + n ≤ length (now out)) ⌝ }
-    ensures { λ _. ⌜ (take (to + n) (now (out .exit)) ≡ take to (now (out .entry)) ++ take n (drop from (now (body .entry)))) × (drop (to + n) (now (out .exit)) ≡ drop (to + n) (now (out .entry))) ⌝ }
-{
-    let mut k: usize = 0;
-    while k < n {
-        out[to + k] = body[from + k];
-        k += 1;
-    }
 }
 
 // One mask strip body of h rows into the first h bytes of `out`.

@@ -5,6 +5,7 @@ ghost use mathlib.Core.Path.{_≡_};
 ghost use Prim.Native.Nat.{_≤_, _<_};
 ghost use lib.ListN.{length};
 ghost use Rattle.player.specs.Adler.{adler32};
+use number::wide;
 use room::Room;
 use room::Tested;
 use room::head::read_head;
@@ -17,12 +18,6 @@ fn text(bytes: &[u8]) {
 fn number(before: &[u8], n: usize) {
     text(before);
     io::print_decimal(1, n as u64);
-}
-
-fn wide(x: u8) -> usize
-    ensures { λ r. ⌜ r ≡ x ⌝ }
-{
-    x as usize
 }
 
 // Adler-32 of the bytes.

@@ -1,12 +1,12 @@
 -- The code's tables tell the room's objects and the shown states: the hit test by the tables is the definition's, and so is the object.
 use Prim.Native.Nat.{ℕ, zero, suc, _+_, _*_, _-_, _≤_, _<_}
 use mathlib.Core.Path.{_≡_, refl, sym, ap, _∙_, subst}
-use mathlib.Core.Bool.{Bool, true, false, cond, not, _&&_}
+use mathlib.Core.Bool.{Bool, true, false, cond, not, _&&_, false≢true}
 use mathlib.Core.List.{List, [], _∷_}
 use mathlib.Core.Logic.{by-cases}
 use native.Mathlib.Decide.{ℕ-discrete}
 use native.Mathlib.Omega.{arith}
-use borrow.Author.Tests.{eqb-true, eq-eqb, ne-eqb, leb-true, le-leb}
+use borrow.Author.Tests.{eqb-true, eq-eqb, ne-eqb, leb-true, le-leb, not-true, not-false}
 use lib.Dec.{eqb, leb}
 use lib.ListN.{getD, length}
 use Rattle.objects.specs.Object.{objectBlock}
@@ -31,9 +31,6 @@ use Rattle.point.specs.Objects.{cdhdByte, objectsOf}
 use Rattle.point.specs.Point.{left, top, spans, holds, hit, lowest, objectAt}
 use Rattle.point.specs.Tables.{boxRow, holdsIn, hitIn}
 
-no-true : false ≡ true → ⊥
-no-true q = let z : _≡_ {A = ℕ} 0 1 = cc in omega arith
-
 -- the last place of an object after a history
 abbrev after : Room → List Step → ℕ → Spot
 after room h o = replay room (bare room) h .last o
@@ -56,7 +53,7 @@ module _ (room : Room) where
       at = record { x = 8 * a; y = 8 * b; set = true }
 
       go : (t : Bool) → cond t at (sc .last o) .set ≡ false → cond t at (sc .last o) ≡ bare room .last o
-      go true e = absurd (no-true (sym e))
+      go true e = absurd (false≢true (sym e))
       go false e = h o e
 
   pub at-home : (h : List Step) (o : ℕ) → after room h o .set ≡ false → after room h o ≡ bare room .last o
@@ -89,7 +86,7 @@ module _ (A B : Room) where
 
   pub same-after : (h : List Step) (o : ℕ) → Same (after A h o) (after B h o)
   unfolding replay applied bare
-  same-after [] o = (refl, λ e. absurd (no-true e))
+  same-after [] o = (refl, λ e. absurd (false≢true e))
   same-after (st ∷ h) o = same-step (replay A (bare A) h) (replay B (bare B) h) st (same-after h) o
 
 -- ---- the box as the code finds it
@@ -126,14 +123,6 @@ module _ (t : List ℕ) (size : Size) (h : List Step) (x y o : ℕ) (one : 1 ≤
       (λ i. spans (a i) ((e ∙ sym (row 3)) i) x && spans (b i) ((f ∙ sym (row 4)) i) y)
 
 -- ---- the hit test, test by test
-
-not-true : (b : Bool) → not b ≡ true → b ≡ false
-not-true true e = absurd (no-true e)
-not-true false e = refl
-
-not-false : (b : Bool) → not b ≡ false → b ≡ true
-not-false true e = refl
-not-false false e = absurd (no-true (sym e))
 
 module _ (t states : List ℕ) (size : Size) (h : List Step) (flags : List ℕ) (x y o : ℕ) (b : Bool) (held : b ≡ holdsIn t size h x y o) where
   pub hit-beside : not b ≡ true → false ≡ hitIn t states size h flags x y o
@@ -223,7 +212,7 @@ module _ (s t₀ t : List ℕ) (filled : Filled s (boxRow s) t₀ t) (size : Siz
             → cond b true (leb (B .parent o) (size .count) && lets (B .flags o) (stateOf es (B .parent o)) && isOpen S (stateOf es) links (B .parent o))
             ≡ cond b true (leb (B .parent o) (size .count) && lets (B .flags o) (stateIn states (B .parent o)) && isOpen B (stateIn states) links (B .parent o))
         go again true e = refl
-        go again false e = on again (leb (B .parent o) (size .count)) refl (λ z. no-true (sym e ∙ eq-eqb (B .parent o) 0 z))
+        go again false e = on again (leb (B .parent o) (size .count)) refl (λ z. false≢true (sym e ∙ eq-eqb (B .parent o) 0 z))
 
     module _ (room : Room) (h : List Step) (flags : List ℕ) (x y : ℕ) where
       abbrev sc : Scene

@@ -16,8 +16,8 @@ use crate::boxes::list_boxes;
 use crate::hit::lowest_hit;
 use climb::states::fill_states;
 use image::gather::gather;
+use number::wide_u32;
 use replay::Size;
-use replay::tables::wide;
 use room::Room;
 use room::Tested;
 use room::test::flags_lent;
@@ -72,8 +72,8 @@ fn ask(room: &[u8], r: Room, table: &[u32], session: &[u8], flags: &[u8], x: u32
     if shown.refusal != 0 {
         return Pointed::Refused(9);
     }
-    let px = wide(x);
-    let py = wide(y);
+    let px = wide_u32(x);
+    let py = wide_u32(y);
     if r.width <= px {
         return Pointed::Refused(14);
     }

@@ -2,12 +2,13 @@
 -- steps replays. Assumes nothing.
 use Prim.Native.Nat.{ℕ, suc, _<_, _≤_}
 use mathlib.Core.Path.{_≡_, refl, sym, ap, ap₂, _∙_}
-use mathlib.Core.Bool.{Bool, true, false, cond, not, _&&_, _||_}
+use mathlib.Core.Bool.{Bool, true, false, cond, not, _&&_, and-true}
 use mathlib.Core.List.{List, [], _∷_}
 use lib.Dec.{eqb, leb}
 use lib.ListN.{getD, length}
 use native.Mathlib.Omega.{arith}
 use borrow.Author.Tests.{eq-eqb, eqb-true, leb-false}
+use Rattle.number.proofs.BoolLaws.{both, neither}
 use Rattle.scene.specs.declared.Entry.{Entry}
 use Rattle.scene.specs.declared.Place.{Place}
 use Rattle.scene.specs.declared.Step.{Step}
@@ -19,15 +20,7 @@ use Rattle.scene.proofs.Reading.{right-means}
 use Rattle.stored.specs.Bytes.{All, Mark, mark, placed, allPlaced, isMark, sameMarks, marksFrom, stepsOf, sessionOf}
 use Rattle.stored.proofs.Lists.{all-append, all-without}
 use Rattle.replay.proofs.Lists.{append-nil}
-use Rattle.stored.proofs.BytesLaws.{marksOf, and-true}
-
-pub both : (a b : Bool) → (a && b) ≡ true → (a ≡ true) × (b ≡ true)
-both true b e = (refl, e)
-both false b e = (cc, cc)
-
-neither : (a b : Bool) → (a || b) ≡ false → a ≡ false
-neither true b e = e
-neither false b e = refl
+use Rattle.stored.proofs.BytesLaws.{marksOf}
 
 -- ---- places
 
@@ -49,7 +42,7 @@ module _ (room : Room) where
   applied-stands sc (Draw o s p) a =
       all-append (Standing (moves sc (Draw o s p))) (without (λ e. clash room e (entryOf sc o s p)) (sc .shown)) (entryOf sc o s p)
       (all-without (Standing (sc .last)) (Standing (moves sc (Draw o s p))) (λ e. clash room e (entryOf sc o s p)) (sc .shown)
-      (λ e h b. stands-on sc o s p e (neither (eqb (e .object) o) (sameBox room e (entryOf sc o s p)) h) b) a)
+      (λ e h b. stands-on sc o s p e (neither (eqb (e .object) o) (sameBox room e (entryOf sc o s p)) h .0) b) a)
       (drawn-stands sc o s p)
   applied-stands sc (Hide o) a =
       rw (append-nil (without (λ e. eqb (e .object) o) (sc .shown)))
@@ -74,7 +67,7 @@ mark-entry last o s e a = go (eqb o (e .object)) refl
     go true q =
         let r = eqb-true o (e .object) q in
         rw (eq-eqb (last o .x) (e .x) (ap (λ (k : ℕ). last k .x) r ∙ sym (a .0)), eq-eqb (last o .y) (e .y) (ap (λ (k : ℕ). last k .y) r ∙ sym (a .1)))
-        (and-true (eqb s (e .state)) ∙ and-true (eqb s (e .state) && true))
+        (sym (and-true (eqb s (e .state) && true) ∙ and-true (eqb s (e .state))))
 
 same-placed : (last : ℕ → Spot) (ms : List Mark) (es : List Entry) → All (Standing last) es → sameMarks ms es ≡ sameList (allPlaced last ms) es
 unfolding sameMarks sameList allPlaced

@@ -8,6 +8,7 @@ use lib.Dec.{eqb, leb, ltb}
 use lib.ListN.{getD, length}
 use native.Mathlib.Omega.{arith}
 use borrow.Author.Tests.{eq-eqb, ne-eqb, le-leb, lt-leb, leb-true, ltb-true}
+use Rattle.number.proofs.BoolLaws.{or-left, or-right}
 use Rattle.scene.specs.declared.Entry.{Entry}
 use Rattle.scene.specs.declared.Step.{Step}
 use Rattle.scene.specs.declared.Step.the-variants.{Draw, Hide}
@@ -76,13 +77,6 @@ six true true true false e f h = (cc, cc, cc, cc, cc, cc)
 six true true false d e f h = (cc, cc, cc, cc, cc, cc)
 six true false c d e f h = (cc, cc, cc, cc, cc, cc)
 six false b c d e f h = (cc, cc, cc, cc, cc, cc)
-
-pub or-left : (a b : Bool) → a ≡ true → (a || b) ≡ true
-or-left a b e = rw e
-
-pub or-right : (a b : Bool) → b ≡ true → (a || b) ≡ true
-or-right true b e = refl
-or-right false b e = e
 
 -- an allowed place is in the room, and the image's size is allowed
 module _ (room : Room) (e : Entry) (h : allowed room e ≡ true) where

@@ -17,7 +17,7 @@ use crate::list::refused;
 use crate::tables::cell;
 use crate::tables::fits;
 use crate::tables::verdict;
-use crate::tables::wide;
+use number::wide_u32;
 use scene::Entry;
 use scene::Place;
 use scene::Step;
@@ -31,8 +31,8 @@ pub fn placed(place: Place, was: Spot) -> Spot
     match place {
         Place::Last => was,
         Place::Strip(a, b) => Spot {
-            x: 8 * wide(a),
-            y: 8 * wide(b),
+            x: 8 * wide_u32(a),
+            y: 8 * wide_u32(b),
         },
     }
 }

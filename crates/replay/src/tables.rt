@@ -7,13 +7,8 @@ ghost use Rattle.scene.specs.Steps.{allowed, sameBox};
 ghost use Rattle.replay.specs.Tables.{cellOf, verdictOf, roomOfTables, Sizes};
 use crate::Size;
 use crate::Spot;
+use number::wide_u32;
 use scene::Entry;
-
-pub fn wide(x: u32) -> usize
-    ensures { λ r. ⌜ (r ≡ x) × (r < 4294967296) ⌝ }
-{
-    x as usize
-}
 
 // Number `field` of an object's row, 0 for an object that is not there.
 pub fn cell(objects: &[u32], size: Size, object: u32, field: usize) -> usize
@@ -23,9 +18,9 @@ pub fn cell(objects: &[u32], size: Size, object: u32, field: usize) -> usize
     if object == 0 {
         return 0;
     }
-    let o = wide(object);
+    let o = wide_u32(object);
     if o <= size.count {
-        return wide(objects[8 * o + field]);
+        return wide_u32(objects[8 * o + field]);
     }
     0
 }
@@ -38,14 +33,14 @@ pub fn verdict(verdicts: &[u8], size: Size, object: u32, state: u32) -> u8
     if object == 0 {
         return 11;
     }
-    let o = wide(object);
+    let o = wide_u32(object);
     if size.count < o {
         return 11;
     }
     if state == 0 {
         return 11;
     }
-    let s = wide(state);
+    let s = wide_u32(state);
     if s <= 9 {
         return verdicts[10 * o + s];
     }

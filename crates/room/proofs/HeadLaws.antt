@@ -7,11 +7,12 @@ use native.Mathlib.Omega.{arith}
 use borrow.Author.Tests.{leb-true, eqb-true}
 use lib.ListN.{length}
 use lib.Dec.{leb, eqb}
+use Rattle.number.proofs.BoolLaws.{and-left, and-right}
 use Rattle.block.specs.Tag.{tag-RMHD, tag-RMIM, tag-RMIH, tag-IM00, tag-SMAP}
 use Rattle.block.specs.Tree.{wellFormed, needTag, findTag}
 use Rattle.block.specs.declared.Found.{Found}
 use Rattle.block.specs.declared.Found.the-variants.{At, Missing}
-use Rattle.block.proofs.Laws.{need-at, nth-at, and-left, and-right, formed-small}
+use Rattle.block.proofs.Laws.{need-at, nth-at, formed-small}
 use Rattle.room.specs.Head.{orMissing, backgroundIn, neededIn, objectsRight, sizesRight, roomOf, sized, headIn, headOf, Sound}
 use Rattle.room.specs.declared.Parts.{Parts}
 use Rattle.room.specs.declared.Needed.{Needed}

@@ -24,7 +24,7 @@ use Rattle.session.specs.Plans.{validShown, plannedRight, planned, undon
 use Rattle.stored.specs.declared.Shown.{Shown}
 use Rattle.session.proofs.PlanLaws.{accepted-plan, accepted-back, list-is}
 use Rattle.replay.proofs.Lists.{append-nil}
-use Rattle.replay.proofs.TablesLaws.{or-left, or-right}
+use Rattle.number.proofs.BoolLaws.{or-left, or-right}
 use Rattle.session.proofs.BridgeLaws.{valid-same, back-same, planned-same}
 use Rattle.session.proofs.CalledLaws.{not-nine}
 use Rattle.stored.proofs.BytesLaws.{length-down, newest-length, dropped-length, steps-after, steps-dropped, shown-back}

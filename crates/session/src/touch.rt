@@ -9,13 +9,13 @@ ghost use Rattle.replay.specs.Tables.{roomOfTables, Sizes};
 ghost use Rattle.stored.specs.Bytes.{stepAt, down, entries};
 ghost use Rattle.replay.specs.Replay.{sceneAfter};
 ghost use Rattle.session.specs.Plans.{flag, flagged};
+use number::wide_u32;
 use replay::Size;
 use replay::history::last_place;
 use replay::history::placed;
 use replay::list::push_if;
 use replay::list::removed;
 use replay::tables::cell;
-use replay::tables::wide;
 use scene::Entry;
 use scene::Step;
 use stored::Shown;
@@ -55,7 +55,7 @@ fn is_covered(objects: &[u32], size: Size, e: Entry, strip: usize) -> bool
     requires { ⌜ (1032 ≤ length (now objects)) × Sizes size ⌝ }
     ensures { λ r. ⌜ ((v : List ℕ) → r ≡ covers (roomOfTables (now (objects .entry)) v size) e strip) ⌝ }
 {
-    let first = wide(e.x) / 8;
+    let first = wide_u32(e.x) / 8;
     let strips = cell(objects, size, e.object, 3) / 8;
     (first <= strip) & (strip < first + strips)
 }

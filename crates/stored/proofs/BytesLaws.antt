@@ -1,7 +1,7 @@
 -- Laws of a session's bytes: what was put is read back, and the rest stays. Assumes nothing.
 use Prim.Native.Nat.{ℕ, zero, suc, _+_, _*_, _-_, _<_, _≤_}
 use mathlib.Core.Path.{_≡_, refl, sym, ap, ap₂, subst, _∙_}
-use mathlib.Core.Bool.{Bool, true, false, _&&_}
+use mathlib.Core.Bool.{Bool, true, false, _&&_, and-true, and-false, and-assoc}
 use mathlib.Core.List.{List, [], _∷_}
 use lib.ListN.{getD, set, take, drop, length, length-set}
 use lib.Seq.{getD-set-same, getD-set-other, drop-cons, getD-take, length-take-le, drop-length}
@@ -211,18 +211,6 @@ marks-differ l k zero [] h = absurd (h refl)
 marks-differ l k zero (e ∷ es) h = refl
 marks-differ l k (suc n) [] h = refl
 marks-differ l k (suc n) (e ∷ es) h = rw (marks-differ l (suc k) n es (λ q. h (ap suc q))) (and-false (isMark (markAt l k) e))
-  where
-    and-false : (b : Bool) → (b && false) ≡ false
-    and-false true = refl
-    and-false false = refl
-
-and-assoc : (a b c : Bool) → (a && (b && c)) ≡ ((a && b) && c)
-and-assoc true b c = refl
-and-assoc false b c = refl
-
-pub and-true : (b : Bool) → b ≡ (b && true)
-and-true true = refl
-and-true false = refl
 
 -- an array's first n entries
 module _ (list : List Entry) (n : ℕ) (fits : n ≤ length list) where
@@ -247,7 +235,7 @@ module _ (list : List Entry) (n : ℕ) (fits : n ≤ length list) where
   unfolding sameMarks marksFrom
   marks-more l i d same b h e =
       let k : n - i ≡ suc (n - (i + 1)) = omega arith in
-      rw (k, next-entry i d h, ← e, ← add-one i) (and-assoc same b (sameMarks (marksFrom l (i + 1) (n - (i + 1))) (drop (i + 1) es)))
+      rw (k, next-entry i d h, ← e, ← add-one i) (sym (and-assoc same b (sameMarks (marksFrom l (i + 1) (n - (i + 1))) (drop (i + 1) es))))
 
   pub marks-start : (l : List ℕ) → sameMarks (marksFrom l 0 n) es ≡ (true && sameMarks (marksFrom l 0 (n - 0)) (drop 0 es))
   marks-start l = let z : n - 0 ≡ n = omega arith in rw z
@@ -259,7 +247,7 @@ module _ (list : List Entry) (n : ℕ) (fits : n ≤ length list) where
       let z : n - i ≡ 0 = omega arith in
       let g : sameMarks (marksFrom l 0 n) es ≡ (same && true) =
       h ∙ rw (z, no-entry i e) in
-      and-true same ∙ sym g ∙ ap (λ (m : ℕ). sameMarks (marksFrom l 0 m) es) f
+      sym (and-true same) ∙ sym g ∙ ap (λ (m : ℕ). sameMarks (marksFrom l 0 m) es) f
 
   pub marks-none : (l : List ℕ) (k : ℕ) → (k ≡ n → ⊥) → false ≡ sameMarks (marksFrom l 0 k) es
   marks-none l k h = sym (marks-differ l 0 k es (λ q. h (q ∙ long)))

@@ -2,4 +2,3 @@ pub mod StripLaws
 pub mod OpLaws
 pub mod PictureLaws
 pub mod PlaceLaws
-pub mod FillLaws

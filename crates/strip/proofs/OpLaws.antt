@@ -108,10 +108,10 @@ module _ (w : ℕ) (s : List ℕ) (st to : State) (behind : Cursor) (v u : ℕ) 
   m = rest s behind
 
   -- the n bits behind the first two, which the operation takes
-  stands : (n x : ℕ) → Hands (2 + n) u (st .cur) (to .cur) → (n ≤ behind .have → Shows n x behind) → pull n m ≡ got x (rest s (to .cur))
+  stands : (n x : ℕ) → Hands (2 + n) u (st .cur) (to .cur) → (n ≤ behind .bits → Shows n x behind) → pull n m ≡ got x (rest s (to .cur))
   stands n x taken seen = hands-shows 2 n v u x (st .cur) behind (to .cur) head taken (seen (omega (arith, head .fewer, taken .fewer))) s
 
-  index-leads : (second : Bool) (x : ℕ) → Hands (2 + w) u (st .cur) (to .cur) → (w ≤ behind .have → Shows w x behind) → v / 2 ≡ 0
+  index-leads : (second : Bool) (x : ℕ) → Hands (2 + w) u (st .cur) (to .cur) → (w ≤ behind .bits → Shows w x behind) → v / 2 ≡ 0
       → to .colour ≡ x → to .step ≡ 1 → LeadsTo second w s st to
   index-leads second x taken seen e ec es =
       op-index w (st .colour) (st .step) v l m (head .front s) one second x (rest s (to .cur)) e (stands w x taken seen)
@@ -120,8 +120,21 @@ module _ (w : ℕ) (s : List ℕ) (st to : State) (behind : Cursor) (v u : ℕ) 
   few : v < 4
   few = pull-is 2 v l m (head .front s) .1
 
+  -- an index, or what the method has behind `11`, which gives this colour and this step
+  op-leads : (second : Bool) (colour step index : ℕ) → (w ≤ behind .bits → Shows w index behind)
+      → (Hands (opLength second w true) u (st .cur) (to .cur) → v / 2 ≡ 1 → to .colour ≡ colour → to .step ≡ step → LeadsTo second w s st to)
+      → Hands (opLength second w (secondBit v)) u (st .cur) (to .cur) → to .colour ≡ cond (secondBit v) colour index → to .step ≡ cond (secondBit v) step 1
+      → LeadsTo second w s st to
+  op-leads second colour step index at-w method = by (v / 2) refl
+    where
+      by : (x : ℕ) → v / 2 ≡ x → Hands (opLength second w (eqb x 1)) u (st .cur) (to .cur) → to .colour ≡ cond (eqb x 1) colour index
+          → to .step ≡ cond (eqb x 1) step 1 → LeadsTo second w s st to
+      by zero e taken ec es = index-leads second index taken at-w e ec es
+      by (suc zero) e taken ec es = method taken e ec es
+      by (suc (suc x)) e taken ec es = absurd (omega (arith, few))
+
   module _ (turned walked sign index : ℕ) (et : turned ≡ cond (eqb sign 1) (minus 0 (st .step)) (st .step)) (ew : walked ≡ minus (st .colour) turned)
-      (at-1 : 1 ≤ behind .have → Shows 1 sign behind) (at-w : w ≤ behind .have → Shows w index behind) where
+      (at-1 : 1 ≤ behind .bits → Shows 1 sign behind) (at-w : w ≤ behind .bits → Shows w index behind) where
     walk-leads : Hands 3 u (st .cur) (to .cur) → v / 2 ≡ 1 → to .colour ≡ walked → to .step ≡ turned → LeadsTo false w s st to
     walk-leads taken e ec es =
         let p = stands 1 sign taken at-1 in
@@ -138,16 +151,10 @@ module _ (w : ℕ) (s : List ℕ) (st to : State) (behind : Cursor) (v u : ℕ) 
 
     pub first-leads : Hands (opLength false w (secondBit v)) u (st .cur) (to .cur) → to .colour ≡ cond (secondBit v) walked index
         → to .step ≡ cond (secondBit v) turned 1 → LeadsTo false w s st to
-    first-leads = by (v / 2) refl
-      where
-        by : (x : ℕ) → v / 2 ≡ x → Hands (opLength false w (eqb x 1)) u (st .cur) (to .cur) → to .colour ≡ cond (eqb x 1) walked index
-            → to .step ≡ cond (eqb x 1) turned 1 → LeadsTo false w s st to
-        by zero e taken ec es = index-leads false index taken at-w e ec es
-        by (suc zero) e taken ec es = walk-leads taken e ec es
-        by (suc (suc x)) e taken ec es = absurd (omega (arith, few))
+    first-leads = op-leads false walked turned index at-w walk-leads
 
   module _ (changed d index : ℕ) (ew : changed ≡ minus (plus (st .colour) d) 4) (no-run : runAhead true l ≡ false)
-      (at-3 : 3 ≤ behind .have → Shows 3 d behind) (at-w : w ≤ behind .have → Shows w index behind) where
+      (at-3 : 3 ≤ behind .bits → Shows 3 d behind) (at-w : w ≤ behind .bits → Shows w index behind) where
     change-leads : Hands 5 u (st .cur) (to .cur) → v / 2 ≡ 1 → to .colour ≡ changed → to .step ≡ st .step → LeadsTo true w s st to
     change-leads taken e ec es =
         let p = stands 3 d taken at-3 in
@@ -157,10 +164,4 @@ module _ (w : ℕ) (s : List ℕ) (st to : State) (behind : Cursor) (v u : ℕ) 
 
     pub second-leads : Hands (opLength true w (secondBit v)) u (st .cur) (to .cur) → to .colour ≡ cond (secondBit v) changed index
         → to .step ≡ cond (secondBit v) (st .step) 1 → LeadsTo true w s st to
-    second-leads = by (v / 2) refl
-      where
-        by : (x : ℕ) → v / 2 ≡ x → Hands (opLength true w (eqb x 1)) u (st .cur) (to .cur) → to .colour ≡ cond (eqb x 1) changed index
-            → to .step ≡ cond (eqb x 1) (st .step) 1 → LeadsTo true w s st to
-        by zero e taken ec es = index-leads true index taken at-w e ec es
-        by (suc zero) e taken ec es = change-leads taken e ec es
-        by (suc (suc x)) e taken ec es = absurd (omega (arith, few))
+    second-leads = op-leads true changed (st .step) index at-w change-leads

@@ -8,7 +8,7 @@ use native.Mathlib.Numerals.{add-one}
 use native.Mathlib.Omega.{arith}
 use borrow.Author.Tests.{ltb-true, ltb-false, leb-true, lt-ltb, le-ltb}
 use lib.ListN.{length, getD, take, drop, set, length-append, length-drop, take-append-drop, List·getD-append}
-use lib.Seq.{take-suc-set, take-all, getD-take, getD-at}
+use lib.Seq.{take-suc, take-suc-set, take-all, getD-take, getD-at}
 use lib.Dec.{leb, ltb}
 use Rattle.strip.specs.declared.Answer.{Answer}
 use Rattle.strip.specs.declared.Answer.the-variants.{Drawn, Refused}
@@ -75,6 +75,11 @@ over-of xs out d n len front back =
 -- the pixel that stands at j, counted by rows
 abbrev pub pixelAt : Bool → ℕ → List ℕ → ℕ → ℕ
 pixelAt vertical h xs j = getD xs (sourceOf vertical h j) 0
+
+-- the first pixels, made by rows already
+pub take-upTo : (h : ℕ) (xs : List ℕ) (n : ℕ) → n ≤ length xs → take n xs ≡ upTo (pixelAt false h xs) n
+take-upTo h xs zero le = refl
+take-upTo h xs (suc n) le = take-suc xs n 0 (omega arith) ∙ ap (λ (p : List ℕ). p ++ (getD xs n 0 ∷ [])) (take-upTo h xs n (omega arith))
 
 pub placed-over : (vertical : Bool) (h : ℕ) (xs out d : List ℕ) → take (8 * h) out ≡ upTo (pixelAt vertical h xs) (8 * h) → drop (8 * h) out ≡ drop (8 * h) d
     → out ≡ over (placed vertical h xs) d

@@ -1,6 +1,6 @@
 -- Laws of places in a strip: what an operation, many keeps and a refusal come to.
 use mathlib.Core.Path.{_≡_, refl, sym, ap, _∙_}
-use mathlib.Core.Bool.{Bool, true, false, _&&_, true≢false}
+use mathlib.Core.Bool.{Bool, true, false, true≢false}
 use mathlib.Core.List.{List, _∷_, _++_}
 use Prim.Native.Nat.{ℕ, zero, suc, _+_, _-_, _%_, _≤_, _<_}
 use native.Mathlib.Omega.{arith}
@@ -11,12 +11,12 @@ use Rattle.bits.specs.declared.Cursor.{Cursor}
 use Rattle.bits.specs.Bits.{lowBits, Pull, short, got, pull, rest, Held, Full}
 use Rattle.bits.specs.Reader.{Hands, One}
 use Rattle.bits.proofs.BitLaws.{pull-is, pull-long, pull-short, pull-zeros, got-tail}
-use Rattle.bits.proofs.CursorLaws.{all-in-hand}
+use Rattle.bits.proofs.CursorLaws.{all-held}
 use Rattle.strip.specs.declared.State.{State}
 use Rattle.strip.specs.declared.Next.the-variants.{Go}
-use Rattle.strip.specs.Strip.{Move, refuse, go, runPixels, opOf, refused, glue, decode}
+use Rattle.strip.specs.Strip.{Move, refuse, go, runPixels, opOf, refused, prepend, decode}
 use Rattle.strip.specs.Place.{isRun, runAhead, ahead, Gives, Stepped, Leads, keptBy}
-use Rattle.strip.proofs.StripLaws.{glue-none, glue-glue, decode-op, decode-past, decode-refuse}
+use Rattle.strip.proofs.StripLaws.{prepend-none, prepend-prepend, decode-op, decode-past, decode-refuse}
 use Rattle.strip.proofs.OpLaws.{op-keep, op-run, op-none, run-cut}
 
 module _ (second : Bool) (w total : ℕ) (s : List ℕ) (st : State) where
@@ -29,7 +29,7 @@ module _ (second : Bool) (w total : ℕ) (s : List ℕ) (st : State) where
       let b : suc n ≡ to .i - st .i = omega arith in
       ap (λ (j : ℕ). decode second w j 0 (st .colour) (st .step) (rest s (st .cur))) a
       ∙ decode-op second w (st .colour) (st .step) (rest s (st .cur)) n (total - to .i) (to .colour) (to .step) (rest s (to .cur)) e
-      ∙ ap (λ (j : ℕ). glue (replicate j (to .colour)) (ahead second w total s to)) b
+      ∙ ap (λ (j : ℕ). prepend (replicate j (to .colour)) (ahead second w total s to)) b
 
   pub refuses : (r : ℕ) → st .i < total → next ≡ refuse r → ahead second w total s st ≡ refused r
   refuses r h e =
@@ -46,17 +46,17 @@ module _ (second : Bool) (w total : ℕ) (s : List ℕ) (st : State) where
 -- ---- keeps
 
 decode-keeps : (second : Bool) (w n c s : ℕ) (m : List Bool) (k : ℕ)
-    → decode second w (k + n) 0 c s (replicate k false ++ m) ≡ glue (replicate k c) (decode second w n 0 c s m)
+    → decode second w (k + n) 0 c s (replicate k false ++ m) ≡ prepend (replicate k c) (decode second w n 0 c s m)
 decode-keeps second w n c s m zero =
     let e : 0 + n ≡ n = omega arith in
-    ap (λ (j : ℕ). decode second w j 0 c s m) e ∙ glue-none (decode second w n 0 c s m)
+    ap (λ (j : ℕ). decode second w j 0 c s m) e ∙ prepend-none (decode second w n 0 c s m)
 decode-keeps second w n c s m (suc k) =
     let e : suc k + n ≡ suc (0 + (k + n)) = omega arith in
     let l = replicate k false ++ m in
     ap (λ (j : ℕ). decode second w j 0 c s (false ∷ l)) e
     ∙ decode-op second w c s (false ∷ l) 0 (k + n) c s l (op-keep second w c s l)
-    ∙ ap (glue (replicate 1 c)) (decode-keeps second w n c s m k)
-    ∙ glue-glue (replicate 1 c) (replicate k c) (decode second w n 0 c s m)
+    ∙ ap (prepend (replicate 1 c)) (decode-keeps second w n c s m k)
+    ∙ prepend-prepend (replicate 1 c) (replicate k c) (decode second w n 0 c s m)
 
 -- k bits that are 0
 pub gives-kept : (second : Bool) (w total : ℕ) (s : List ℕ) (st : State) (k : ℕ) (next : Cursor) → Hands k 0 (st .cur) next → st .i + k ≤ total
@@ -67,14 +67,14 @@ gives-kept second w total s st k next zeros le =
     ap (λ (j : ℕ). decode second w j 0 (st .colour) (st .step) (rest s (st .cur))) a
     ∙ ap (decode second w (k + (total - (st .i + k))) 0 (st .colour) (st .step)) (pull-zeros k (rest s (st .cur)) (rest s next) (zeros .front s))
     ∙ decode-keeps second w (total - (st .i + k)) (st .colour) (st .step) (rest s next) k
-    ∙ ap (λ (j : ℕ). glue (replicate j (st .colour)) (ahead second w total s (keptBy k next st))) b
+    ∙ ap (λ (j : ℕ). prepend (replicate j (st .colour)) (ahead second w total s (keptBy k next st))) b
 
 -- ---- one operation that isn't a run
 
-pub none-stepped : (second : Bool) (w total : ℕ) (s : List ℕ) (st : State) → st .i < total → Full s (st .cur) → st .cur .have < 1 → ahead second w total s st ≡ refused 7
+pub none-stepped : (second : Bool) (w total : ℕ) (s : List ℕ) (st : State) → st .i < total → Full s (st .cur) → st .cur .bits < 1 → ahead second w total s st ≡ refused 7
 none-stepped second w total s st left full h =
     refuses second w total s st 7 left
-    (op-none second w (st .colour) (st .step) (rest s (st .cur)) (rw (all-in-hand s (st .cur) full (omega arith)) h))
+    (op-none second w (st .colour) (st .step) (rest s (st .cur)) (rw (all-held s (st .cur) full (omega arith)) h))
 
 module _ (second : Bool) (w total : ℕ) (s : List ℕ) (st : State) (left : st .i < total) (held : Held s (st .cur)) where
   pub keep-stepped : (to : Cursor) → Hands 1 0 (st .cur) to → Stepped second w total s st (Go (keptBy 1 to st))
@@ -95,15 +95,6 @@ one-first l m v e some =
 
 -- ---- a run
 
--- both of two tests, as a run of the second method asks them
-pub first-of : (a b : Bool) → (a && b) ≡ true → a ≡ true
-first-of true b e = refl
-first-of false b e = absurd (true≢false (sym e))
-
-pub second-of : (a b : Bool) → (a && b) ≡ true → b ≡ true
-second-of true b e = e
-second-of false b e = absurd (true≢false (sym e))
-
 -- fewer bits than a run starts with
 pub few-no-run : (second : Bool) (l : List Bool) → length l < 5 → runAhead second l ≡ false
 few-no-run false l h = refl
@@ -121,10 +112,10 @@ module _ (w total : ℕ) (s : List ℕ) (st : State) (left : st .i < total) (is-
   head : pull 5 (rest s (st .cur)) ≡ got 19 behind
   head = run-head (pull 5 (rest s (st .cur))) is-run .1
 
-  pub run-cut-stepped : Full s (st .cur) → st .cur .have < 13 → ahead true w total s st ≡ refused 7
+  pub run-cut-stepped : Full s (st .cur) → st .cur .bits < 13 → ahead true w total s st ≡ refused 7
   run-cut-stepped full h =
       let long = pull-long 5 19 (rest s (st .cur)) behind head in
-      let all = all-in-hand s (st .cur) full (omega arith) in
+      let all = all-held s (st .cur) full (omega arith) in
       refuses true w total s st 7 left (run-cut w (st .colour) (st .step) (rest s (st .cur)) behind head (omega (arith, long, all)))
 
   module _ (one two : Cursor) (v m n : ℕ) (five : Hands 5 v (st .cur) one) (eight : Hands 8 m one two) (en : n ≡ runPixels m) (some : 1 ≤ n) where

@@ -5,9 +5,8 @@ use mathlib.Core.List.{List, [], _∷_, _++_, append-assoc}
 use Prim.Native.Nat.{ℕ, zero, suc, _+_, _%_, _^_, _≤_, _<_}
 use native.Mathlib.Omega.{arith}
 use borrow.Author.Tests.{le-leb, lt-leb}
-use lib.ListN.{drop, set, replicate}
-use lib.Seq.{drop-set-lt, drop-drop}
-use Rattle.strip.specs.Strip.{minus, Move, refuse, go, opOf, measured, moveOf, Strip, refused, pixels, madeOf, onto, glue, decode}
+use lib.ListN.{replicate}
+use Rattle.strip.specs.Strip.{minus, Move, refuse, go, opOf, measured, moveOf, Strip, refused, pixels, madeOf, onto, prepend, decode}
 
 -- what `wrapping_sub_u8` says is the difference modulo 256
 pub minus-of : (a b r : ℕ) → b < 2 ^ 8 → r < 2 ^ 8 → (r + b) % 2 ^ 8 ≡ a → minus a b ≡ r
@@ -21,13 +20,13 @@ measured-past k left c s l h = rw (lt-leb left k h)
 
 -- ---- the loop
 
-pub glue-none : (x : Strip) → x ≡ glue [] x
-glue-none (refused n) = refl
-glue-none (pixels ys) = refl
+pub prepend-none : (x : Strip) → x ≡ prepend [] x
+prepend-none (refused n) = refl
+prepend-none (pixels ys) = refl
 
-pub glue-onto : (xs : List ℕ) (c : ℕ) (x : Strip) → glue xs (onto c x) ≡ glue (xs ++ (c ∷ [])) x
-glue-onto xs c (refused n) = refl
-glue-onto xs c (pixels ys) = ap pixels (sym (append-assoc xs (c ∷ []) ys))
+pub prepend-onto : (xs : List ℕ) (c : ℕ) (x : Strip) → prepend xs (onto c x) ≡ prepend (xs ++ (c ∷ [])) x
+prepend-onto xs c (refused n) = refl
+prepend-onto xs c (pixels ys) = ap pixels (sym (append-assoc xs (c ∷ []) ys))
 
 module _ (second : Bool) (w n k left c s : ℕ) (l : List Bool) (more : n ≡ suc k) where
   pub decode-go : (left′ c′ s′ : ℕ) (l′ : List Bool) → moveOf second w k left c s l ≡ go left′ c′ s′ l′
@@ -43,38 +42,34 @@ module _ (second : Bool) (w n k left c s : ℕ) (l : List Bool) (more : n ≡ su
       ap (λ (m : ℕ). decode second w m left c s l) more
       ∙ ap (λ (q : Move). elim q as (λ _. Strip) [ refuse r ↦ refused r | go a b d f ↦ onto b (decode second w k a b d f) ]) e
 
-pub drop-store : (out d : List ℕ) (i c : ℕ) → drop i out ≡ drop i d → drop (i + 1) (set out i c) ≡ drop (i + 1) d
-drop-store out d i c e =
-    drop-set-lt (i + 1) out i c (omega arith) ∙ sym (drop-drop 1 i out) ∙ ap (drop 1) e ∙ drop-drop 1 i d
+pub prepend-prepend : (xs ys : List ℕ) (x : Strip) → prepend xs (prepend ys x) ≡ prepend (xs ++ ys) x
+prepend-prepend xs ys (refused n) = refl
+prepend-prepend xs ys (pixels zs) = ap pixels (sym (append-assoc xs ys zs))
 
-pub glue-glue : (xs ys : List ℕ) (x : Strip) → glue xs (glue ys x) ≡ glue (xs ++ ys) x
-glue-glue xs ys (refused n) = refl
-glue-glue xs ys (pixels zs) = ap pixels (sym (append-assoc xs ys zs))
+pub made-prepend : (xs : List ℕ) (y : Strip) → madeOf (prepend xs y) ≡ madeOf y
+made-prepend xs (refused n) = refl
+made-prepend xs (pixels ys) = refl
 
-pub made-glue : (xs : List ℕ) (y : Strip) → madeOf (glue xs y) ≡ madeOf y
-made-glue xs (refused n) = refl
-made-glue xs (pixels ys) = refl
+-- ---- pixels that are pending, and an operation that gives some
 
--- ---- pixels that are owed, and an operation that gives some
-
-onto-glue : (c : ℕ) (xs : List ℕ) (x : Strip) → onto c (glue xs x) ≡ glue (c ∷ xs) x
-onto-glue c xs (refused n) = refl
-onto-glue c xs (pixels ys) = refl
+onto-prepend : (c : ℕ) (xs : List ℕ) (x : Strip) → onto c (prepend xs x) ≡ prepend (c ∷ xs) x
+onto-prepend c xs (refused n) = refl
+onto-prepend c xs (pixels ys) = refl
 
 module _ (second : Bool) (w : ℕ) where
-  pub decode-owed : (n k c s : ℕ) (l : List Bool) → decode second w (n + k) n c s l ≡ glue (replicate n c) (decode second w k 0 c s l)
-  decode-owed zero k c s l = let e : 0 + k ≡ k = omega arith in ap (λ (j : ℕ). decode second w j 0 c s l) e ∙ glue-none (decode second w k 0 c s l)
-  decode-owed (suc n) k c s l =
+  pub decode-pending : (n k c s : ℕ) (l : List Bool) → decode second w (n + k) n c s l ≡ prepend (replicate n c) (decode second w k 0 c s l)
+  decode-pending zero k c s l = let e : 0 + k ≡ k = omega arith in ap (λ (j : ℕ). decode second w j 0 c s l) e ∙ prepend-none (decode second w k 0 c s l)
+  decode-pending (suc n) k c s l =
       let e : suc n + k ≡ suc (n + k) = omega arith in
-      decode-go second w (suc n + k) (n + k) (suc n) c s l e n c s l refl ∙ ap (onto c) (decode-owed n k c s l) ∙ onto-glue c (replicate n c) (decode second w k 0 c s l)
+      decode-go second w (suc n + k) (n + k) (suc n) c s l e n c s l refl ∙ ap (onto c) (decode-pending n k c s l) ∙ onto-prepend c (replicate n c) (decode second w k 0 c s l)
 
   module _ (c s : ℕ) (l : List Bool) where
     pub decode-op : (n k c′ s′ : ℕ) (l′ : List Bool) → opOf second w c s l ≡ go n c′ s′ l′
-        → decode second w (suc (n + k)) 0 c s l ≡ glue (replicate (suc n) c′) (decode second w k 0 c′ s′ l′)
+        → decode second w (suc (n + k)) 0 c s l ≡ prepend (replicate (suc n) c′) (decode second w k 0 c′ s′ l′)
     decode-op n k c′ s′ l′ e =
         decode-go second w (suc (n + k)) (n + k) 0 c s l refl n c′ s′ l′ (ap (measured (n + k)) e ∙ measured-fits (n + k) n c′ s′ l′ (omega arith))
-        ∙ ap (onto c′) (decode-owed n k c′ s′ l′)
-        ∙ onto-glue c′ (replicate n c′) (decode second w k 0 c′ s′ l′)
+        ∙ ap (onto c′) (decode-pending n k c′ s′ l′)
+        ∙ onto-prepend c′ (replicate n c′) (decode second w k 0 c′ s′ l′)
 
     pub decode-past : (n k c′ s′ : ℕ) (l′ : List Bool) → opOf second w c s l ≡ go n c′ s′ l′ → k < n → decode second w (suc k) 0 c s l ≡ refused 8
     decode-past n k c′ s′ l′ e h =

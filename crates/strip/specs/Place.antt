@@ -12,7 +12,7 @@ use Rattle.bits.specs.Reader.{One}
 use Rattle.strip.specs.declared.State.{State}
 use Rattle.strip.specs.declared.Next.{Next}
 use Rattle.strip.specs.declared.Next.the-variants.{Go, Refuse}
-use Rattle.strip.specs.Strip.{refuse, go, opOf, Strip, refused, glue, decode}
+use Rattle.strip.specs.Strip.{refuse, go, opOf, Strip, refused, prepend, decode}
 
 -- ---- the bits ahead of a place
 
@@ -24,10 +24,10 @@ opLength second w more = cond more (cond second 5 3) (2 + w)
 abbrev pub secondBit : ℕ → Bool
 secondBit v = eqb (v / 2) 1
 
--- all bits of the operation that starts at c are in hand, if it isn't a run
+-- all bits of the operation that starts at c are held, if it isn't a run
 pub record Whole (second : Bool) (w : ℕ) (c : Cursor) : Type 0 where
-  pub two : 2 ≤ c .have
-  pub all : (s : List ℕ) (v : ℕ) (l : List Bool) → pull 2 (rest s c) ≡ got v l → opLength second w (secondBit v) ≤ c .have
+  pub two : 2 ≤ c .bits
+  pub all : (s : List ℕ) (v : ℕ) (l : List Bool) → pull 2 (rest s c) ≡ got v l → opLength second w (secondBit v) ≤ c .bits
 
 -- a run of the second method: `11` and d = 4, which from bit 0 up is 19
 abbrev pub isRun : Pull → Bool
@@ -45,7 +45,7 @@ ahead second w total s st = decode second w (total - st .i) 0 (st .colour) (st .
 
 -- from st on come pixels of the colour of `to` up to the place `to`, and then what comes from there on
 abbrev pub Gives : Bool → (w total : ℕ) → List ℕ → (st to : State) → Type 0
-Gives second w total s st to = ahead second w total s st ≡ glue (replicate (to .i - st .i) (to .colour)) (ahead second w total s to)
+Gives second w total s st to = ahead second w total s st ≡ prepend (replicate (to .i - st .i) (to .colour)) (ahead second w total s to)
 
 -- the answer to one step
 abbrev pub Stepped : Bool → (w total : ℕ) → List ℕ → State → Next → Type 0
@@ -59,8 +59,8 @@ LeadsTo second w s st to = opOf second w (st .colour) (st .step) (rest s (st .cu
 -- the operation at st, where it starts with a 1 bit and isn't a run: it takes at most ten bits
 pub record Leads (second : Bool) (w : ℕ) (st to : State) : Type 0 where
   pub on : to .i ≡ st .i + 1
-  pub few : st .cur .have ≤ to .cur .have + 10
-  pub fewer : to .cur .have ≤ st .cur .have
+  pub few : st .cur .bits ≤ to .cur .bits + 10
+  pub fewer : to .cur .bits ≤ st .cur .bits
   pub held : (s : List ℕ) → Held s (st .cur) → Held s (to .cur)
   pub leads : (s : List ℕ) → One (rest s (st .cur)) → runAhead second (rest s (st .cur)) ≡ false → LeadsTo second w s st to
 
@@ -72,8 +72,8 @@ Cut second w s c = (colour step : ℕ) → opOf second w colour step (rest s c) 
 abbrev pub keptBy : ℕ → Cursor → State → State
 keptBy k next st = record { i = st .i + k; colour = st .colour; step = st .step; cur = next }
 
--- so many bits are in hand and so many pixels are left, and no run stands ahead
+-- so many bits are held and so many pixels are left, and no run stands ahead
 pub record Fits (second : Bool) (total bits pixels : ℕ) (st : State) : Type 0 where
   pub none : (s : List ℕ) → runAhead second (rest s (st .cur)) ≡ false
-  pub enough : bits ≤ st .cur .have
+  pub enough : bits ≤ st .cur .bits
   pub room : st .i + pixels ≤ total

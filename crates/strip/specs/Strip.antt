@@ -17,7 +17,7 @@ plus a b = (a + b) % 256
 abbrev pub minus : ℕ → ℕ → ℕ
 minus a b = (a + (256 - b)) % 256
 
--- what an operation gives: a refusal, or a pixel of a colour, with so many more of it owed, the step, and the bits left
+-- what an operation gives: a refusal, or a pixel of a colour, with so many more of it pending, the step, and the bits left
 pub data Move : Type 0 where
   refuse : ℕ → Move
   go : (left colour step : ℕ) → List Bool → Move
@@ -43,7 +43,7 @@ abbrev pub runPixels : ℕ → ℕ
 runPixels zero = 256
 runPixels (suc n) = suc n
 
--- second method, d = 4: an 8-bit n gives a run of the colour, of which all pixels but the first are owed
+-- second method, d = 4: an 8-bit n gives a run of the colour, of which all pixels but the first are pending
 abbrev pub runOp : ℕ → ℕ → Pull → Move
 runOp c s short = refuse 7
 runOp c s (got n l) = go (runPixels n - 1) c s l
@@ -62,12 +62,12 @@ opOf second w c s (true ∷ false ∷ l) = indexOp (pull w l)
 opOf false w c s (true ∷ true ∷ l) = walkOp c s l
 opOf true w c s (true ∷ true ∷ l) = changeOp c s (pull 3 l)
 
--- what is owed is measured against the k pixels that come after this one
+-- what is pending is measured against the k pixels that come after this one
 abbrev pub measured : ℕ → Move → Move
 measured k (refuse n) = refuse n
 measured k (go left c s l) = choose (leb left k) (go left c s l) (refuse 8)
 
--- the next pixel: one that is owed, or the first that the next operation gives
+-- the next pixel: one that is pending, or the first that the next operation gives
 abbrev pub moveOf : Bool → ℕ → ℕ → ℕ → ℕ → ℕ → List Bool → Move
 moveOf second w k zero c s l = measured k (opOf second w c s l)
 moveOf second w k (suc left) c s l = go left c s l
@@ -88,11 +88,11 @@ onto x (refused n) = refused n
 onto x (pixels xs) = pixels (x ∷ xs)
 
 -- values in front
-abbrev pub glue : List ℕ → Strip → Strip
-glue xs (refused n) = refused n
-glue xs (pixels ys) = pixels (xs ++ ys)
+abbrev pub prepend : List ℕ → Strip → Strip
+prepend xs (refused n) = refused n
+prepend xs (pixels ys) = pixels (xs ++ ys)
 
--- the next k pixels, in a strip that they fill; `left` more of the colour c are owed, s is the step and l the bits left
+-- the next k pixels, in a strip that they fill; `left` more of the colour c are pending, s is the step and l the bits left
 unfoldable pub decode : Bool → ℕ → ℕ → ℕ → ℕ → ℕ → List Bool → Strip
 decode second w zero left c s l = pixels []
 decode second w (suc k) left c s l =

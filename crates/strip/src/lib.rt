@@ -1,7 +1,6 @@
 // Strips of pixels (document 01, "Strips of pixels"): what a strip's code and its operations mean, and the operations themselves, from one
 // place of a strip to the next. Crate decode paints and tests whole strips by them.
 pub mod codes;
-pub mod filling;
 pub mod operations;
 
 use bits::Cursor;

@@ -47,15 +47,15 @@ fn length_of(second: bool, w: u32, more: bool) -> u32
 
 // Whether a run of the second method stands ahead: `11` and d = 4, which from bit 0 up is 19.
 pub fn run_at(second: bool, cur: Cursor) -> bool
-    requires { ⌜ (5 ≤ cur .have) × (cur .have ≤ 63) ⌝ }
+    requires { ⌜ (5 ≤ cur .bits) × (cur .bits ≤ 63) ⌝ }
     ensures { λ r. ⌜ ((s : List ℕ) → r ≡ runAhead second (rest s cur)) ⌝ }
 {
-    second & (cur.take(5).bits == 19)
+    second & (cur.take(5).value == 19)
 }
 
 // The same where fewer bits may be left than a run starts with.
 fn run_left(second: bool, cur: Cursor) -> bool
-    requires { ⌜ cur .have ≤ 63 ⌝ }
+    requires { ⌜ cur .bits ≤ 63 ⌝ }
     ensures { λ r. ⌜ ((s : List ℕ) → Full s cur → r ≡ runAhead second (rest s cur)) ⌝ }
 {
     if !cur.holds(5) {
@@ -66,19 +66,19 @@ fn run_left(second: bool, cur: Cursor) -> bool
 
 // `10` a new index, and the step is 1 again; `110` and `111` of the first method: the step, negated for `111`, is subtracted.
 fn first_op(st: State, w: u32) -> State
-    requires { ⌜ (w ≤ 8) × Whole false w (st .cur) × (st .cur .have ≤ 63) × (st .i < 1600) ⌝ }
+    requires { ⌜ (w ≤ 8) × Whole false w (st .cur) × (st .cur .bits ≤ 63) × (st .i < 1600) ⌝ }
     ensures { λ r. ⌜ Leads false w st r ⌝ }
 {
     let cur = st.cur;
     let head = cur.take(2);
-    let walk = head.bits / 2 == 1;
+    let walk = head.value / 2 == 1;
     let behind = head.next;
-    let turned = either(behind.look(1) == 1, less(0, st.step), st.step);
+    let turned = either(behind.peek(1) == 1, less(0, st.step), st.step);
     let walked = less(st.colour, turned);
     let next = cur.take(length_of(false, w, walk)).next;
     State {
         i: st.i + 1,
-        colour: either(walk, walked, behind.look(w)),
+        colour: either(walk, walked, behind.peek(w)),
         step: either(walk, turned, 1),
         cur: next,
     }
@@ -86,18 +86,18 @@ fn first_op(st: State, w: u32) -> State
 
 // `10` a new index; `11` and d of the second method: colour + d − 4.
 fn second_op(st: State, w: u32) -> State
-    requires { ⌜ (w ≤ 8) × Whole true w (st .cur) × (st .cur .have ≤ 63) × (st .i < 1600) ⌝ }
+    requires { ⌜ (w ≤ 8) × Whole true w (st .cur) × (st .cur .bits ≤ 63) × (st .i < 1600) ⌝ }
     ensures { λ r. ⌜ Leads true w st r ⌝ }
 {
     let cur = st.cur;
     let head = cur.take(2);
-    let change = head.bits / 2 == 1;
+    let change = head.value / 2 == 1;
     let behind = head.next;
-    let changed = less(more(st.colour, behind.look(3)), 4);
+    let changed = less(more(st.colour, behind.peek(3)), 4);
     let next = cur.take(length_of(true, w, change)).next;
     State {
         i: st.i + 1,
-        colour: either(change, changed, behind.look(w)),
+        colour: either(change, changed, behind.peek(w)),
         step: either(change, st.step, 1),
         cur: next,
     }
@@ -105,7 +105,7 @@ fn second_op(st: State, w: u32) -> State
 
 // The operation that starts with a 1 bit, where it isn't a run.
 pub fn op(second: bool, w: u32, st: State) -> State
-    requires { ⌜ (w ≤ 8) × Whole second w (st .cur) × (st .cur .have ≤ 63) × (st .i < 1600) ⌝ }
+    requires { ⌜ (w ≤ 8) × Whole second w (st .cur) × (st .cur .bits ≤ 63) × (st .i < 1600) ⌝ }
     ensures { λ r. ⌜ Leads second w st r ⌝ }
 {
     if second {
@@ -128,21 +128,21 @@ pub fn kept(st: State, k: u32, next: Cursor) -> State
     }
 }
 
-// Whether all bits of the operation that starts with a 1 bit are in hand, where it isn't a run.
+// Whether all bits of the operation that starts with a 1 bit are held, where it isn't a run.
 fn whole(second: bool, w: u32, cur: Cursor) -> bool
-    requires { ⌜ (w ≤ 8) × (cur .have ≤ 63) ⌝ }
+    requires { ⌜ (w ≤ 8) × (cur .bits ≤ 63) ⌝ }
     ensures { λ r. ⌜ (r ≡ true → Whole second w cur) × (r ≡ false → (s : List ℕ) → Full s cur → One (rest s cur) → Cut second w s cur) ⌝ }
 {
     if !cur.holds(2) {
         return false;
     }
-    let more = cur.take(2).bits / 2 == 1;
+    let more = cur.take(2).value / 2 == 1;
     cur.holds(length_of(second, w, more))
 }
 
 // One operation that isn't a run, in a strip of `total` pixels.
 fn one(second: bool, w: u32, total: usize, st: State) -> Next
-    requires { ⌜ (w ≤ 8) × (st .cur .have ≤ 63) × (st .i < total) × (total ≤ 1600) ⌝ }
+    requires { ⌜ (w ≤ 8) × (st .cur .bits ≤ 63) × (st .i < total) × (total ≤ 1600) ⌝ }
     ensures { λ r. ⌜ ((s : List ℕ) → Held s (st .cur) → Full s (st .cur) → runAhead second (rest s (st .cur)) ≡ false → Stepped second w total s st r) ⌝ }
 {
     let cur = st.cur;
@@ -151,7 +151,7 @@ fn one(second: bool, w: u32, total: usize, st: State) -> Next
     }
     let first = cur.take(1);
     let next = first.next;
-    if first.bits == 0 {
+    if first.value == 0 {
         return Next::Go(kept(st, 1, next));
     }
     if !whole(second, w, cur) {
@@ -173,7 +173,7 @@ fn run_pixels(n: u64) -> usize
 
 // A run, in a strip of `total` pixels: its number is looked for before its pixels are measured.
 fn run(total: usize, st: State) -> Next
-    requires { ⌜ (st .cur .have ≤ 63) × (st .i < total) × (total ≤ 1600) ⌝ }
+    requires { ⌜ (st .cur .bits ≤ 63) × (st .i < total) × (total ≤ 1600) ⌝ }
     ensures { λ r. ⌜ ((w : ℕ) (s : List ℕ) → Held s (st .cur) → Full s (st .cur) → runAhead true (rest s (st .cur)) ≡ true → Stepped true w total s st r) ⌝ }
 {
     let cur = st.cur;
@@ -181,7 +181,7 @@ fn run(total: usize, st: State) -> Next
         return Next::Refuse(7);
     }
     let number = cur.take(5).next.take(8);
-    let to = st.i + run_pixels(number.bits);
+    let to = st.i + run_pixels(number.value);
     if total < to {
         return Next::Refuse(8);
     }
@@ -196,7 +196,7 @@ fn run(total: usize, st: State) -> Next
 
 // The next operation, in a strip of `total` pixels.
 pub fn step(second: bool, w: u32, total: usize, st: State) -> Next
-    requires { ⌜ (w ≤ 8) × (st .cur .have ≤ 63) × (st .i < total) × (total ≤ 1600) ⌝ }
+    requires { ⌜ (w ≤ 8) × (st .cur .bits ≤ 63) × (st .i < total) × (total ≤ 1600) ⌝ }
     ensures { λ r. ⌜ ((s : List ℕ) → Held s (st .cur) → Full s (st .cur) → Stepped second w total s st r) ⌝ }
 {
     let cur = st.cur;
@@ -206,13 +206,14 @@ pub fn step(second: bool, w: u32, total: usize, st: State) -> Next
     one(second, w, total, st)
 }
 
-// The same place, with at least 56 bits in hand or all that are left.
-pub fn filled(body: &[u8], st: State) -> State
+// The same place, with at least 56 bits held or all that are left.
+pub fn refill(body: &[u8], st: State) -> State
     requires { ⌜ Held (now body) (st .cur) ⌝ }
-    ensures { λ r. ⌜ (r .i ≡ st .i) × (r .colour ≡ st .colour) × (r .step ≡ st .step) × Held (now (body .entry)) (r .cur) × Full (now (body .entry)) (r .cur) × (rest (now (body .entry)) (r .cur) ≡ rest (now (body .entry)) (st .cur)) ⌝ }
+    ensures { λ r. ⌜ (r .i ≡ st .i) × (r .colour ≡ st .colour) × (r .step ≡ st .step) × Held (now (body .entry)) (r .cur)
+        × Full (now (body .entry)) (r .cur) × (rest (now (body .entry)) (r .cur) ≡ rest (now (body .entry)) (st .cur)) ⌝ }
 {
     let cur = st.cur;
-    let more = cur.filled(body);
+    let more = cur.refill(body);
     State {
         i: st.i,
         colour: st.colour,
@@ -221,9 +222,9 @@ pub fn filled(body: &[u8], st: State) -> State
     }
 }
 
-// Whether so many bits are in hand and so many pixels are left, and no run stands ahead.
+// Whether so many bits are held and so many pixels are left, and no run stands ahead.
 pub fn fits(second: bool, total: usize, bits: u32, pixels: usize, st: State) -> bool
-    requires { ⌜ (5 ≤ bits) × (st .cur .have ≤ 63) × (st .i ≤ total) × (total ≤ 1600) × (pixels ≤ 100) ⌝ }
+    requires { ⌜ (5 ≤ bits) × (st .cur .bits ≤ 63) × (st .i ≤ total) × (total ≤ 1600) × (pixels ≤ 100) ⌝ }
     ensures { λ r. ⌜ (r ≡ true → Fits second total bits pixels st) ⌝ }
 {
     let cur = st.cur;

@@ -8,11 +8,12 @@ use borrow.Author.Tests.{eq-eqb, ne-eqb}
 use native.Mathlib.Nat.{mul-le-mul-left}
 use lib.Dec.{eqb}
 use lib.ListN.{length, take, drop, replicate}
+use Rattle.number.proofs.BoolLaws.{and-left, and-right}
 use Rattle.table.specs.Table.{offsetSize, tableEnd, offsetAt, offsetRight, bodiless, offsetsRight, tableRight}
 use Rattle.table.specs.Body.{bodyEnd, rowsAt}
 use Rattle.strip.specs.Strip.{Filled}
 use Rattle.strip.specs.declared.Made.the-variants.{All}
-use Rattle.table.proofs.TableLaws.{and-left, and-right, right-offset, table-at, table-room}
+use Rattle.table.proofs.TableLaws.{right-offset, table-at, table-room}
 
 module _ (mask : Bool) (s : List ℕ) (b z : ℕ) where
   pub end-none : (k m : ℕ) → m ≡ 0 → bodyEnd mask s b z k m ≡ z

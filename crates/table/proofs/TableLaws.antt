@@ -8,15 +8,8 @@ use native.Mathlib.Omega.{arith}
 use native.Mathlib.Decide.{ℕ-discrete}
 use borrow.Author.Tests.{leb-true, ltb-true, le-leb, lt-leb}
 use lib.Dec.{leb, ltb}
+use Rattle.number.proofs.BoolLaws.{and-left, and-right}
 use Rattle.table.specs.Table.{tableEnd, offsetAt, offsetRight, bodiless, offsetsRight, tableRight}
-
-pub and-left : (a b : Bool) → (a && b) ≡ true → a ≡ true
-and-left true b h = refl
-and-left false b h = h
-
-pub and-right : (a b : Bool) → (a && b) ≡ true → b ≡ true
-and-right true b h = h
-and-right false b h = absurd (true≢false (sym h))
 
 -- a right offset, as numbers
 pub right-offset : (low size before offset : ℕ) → offsetRight low size before offset ≡ true → (low ≤ offset) × (offset < size) × (before < offset)

@@ -135,7 +135,7 @@ pub fn read_rows(
     ensures { λ r. ⌜ Filled h (rowsAt n h (now (room .entry)) b z k) (now (out .entry)) (now (out .exit)) r ⌝ }
 {
     if offset_at(room, true, b, k) == 0 {
-        strip::filling::fill(out, 0, h, 0);
+        number::buffer::fill(out, 0, h, 0);
         return Made::All;
     }
     plane::mask_rows(strip_body(room, true, n, b, z, k), h, out)

@@ -1,17 +1,18 @@
 -- Laws of verdicts: an image's own refusal is 8 or less, so it is never mistaken for 11 or for a cell that isn't judged; which verdicts are
 -- right; a table of verdicts after one more step; and what session's tables tell of the decoded room. Assumes nothing.
 use Prim.Native.Nat.{ℕ, zero, suc, _+_, _-_, _*_, _/_, _≤_, _<_, _%_}
-use mathlib.Core.Bool.{Bool, true, false, cond, not, _&&_, _||_, false≢true}
+use mathlib.Core.Bool.{Bool, true, false, cond, not, _&&_, _||_, and-false, false≢true}
 use mathlib.Core.List.{List, [], _∷_}
 use lib.Dec.{eqb, leb, ltb}
 use lib.ListN.{length, replicate, getD, set, take, length-set, getD-replicate, List·getD-eq-default}
 use native.Mathlib.Omega.{arith}
+use Rattle.number.proofs.BoolLaws.{and-left, and-right}
 use Rattle.bits.specs.Bits.{Pull, short, got, pull, bitsOf}
-use Rattle.strip.specs.Strip.{Move, refuse, go, choose, indexOp, walkOp, runOp, changeOp, opOf, measured, moveOf, Strip, refused, pixels, onto, glue, decode, minus, plus}
+use Rattle.strip.specs.Strip.{Move, refuse, go, choose, indexOp, walkOp, runOp, changeOp, opOf, measured, moveOf, Strip, refused, pixels, onto, prepend, decode, minus, plus}
 use Rattle.strip.specs.Picture.{Picture, refusal, picture, unless, rawOf, shown, codedOf, byKind, stripOf, kindOf, placed}
 use Rattle.strip.specs.declared.Kind.{Kind}
 use Rattle.strip.specs.declared.Kind.the-variants.{Raw, Coded, Unknown}
-use Rattle.plane.specs.Mask.{Owed, literals, copies, Plan, past, owe, planOf, rowsOf}
+use Rattle.plane.specs.Mask.{Pending, literals, copies, Plan, past, leaves, planOf, rowsOf}
 use Rattle.table.specs.Table.{tableRight, offsetAt}
 use Rattle.table.specs.Body.{bodyOf, stripAt, rowsAt}
 use Rattle.table.specs.Test.{number, andThen, pictureTest, rowsTest, stripTest, leftmost, blockTest}
@@ -29,7 +30,6 @@ use mathlib.Core.Logic.{by-cases}
 use native.Mathlib.Decide.{ℕ-discrete}
 use lib.Seq.{getD-take, getD-set-same, getD-set-other}
 use borrow.Author.Tests.{eq-eqb, ne-eqb, le-leb, lt-leb, leb-true, leb-false, eqb-true, eqb-false}
-use Rattle.block.proofs.Laws.{and-left, and-right, and-false}
 use Rattle.objects.specs.Object.{objectBlock}
 use Rattle.room.specs.declared.Room.{Room}
 use Rattle.image.proofs.GatherLaws.{gathered-x, gathered-y, gathered-width, gathered-height}
@@ -101,9 +101,9 @@ low-onto : (x : ℕ) (t : Strip) → LowStrip t → LowStrip (onto x t)
 low-onto x (refused n) h = h
 low-onto x (pixels xs) h = tt
 
-low-glue : (xs : List ℕ) (t : Strip) → LowStrip t → LowStrip (glue xs t)
-low-glue xs (refused n) h = h
-low-glue xs (pixels ys) h = tt
+low-prepend : (xs : List ℕ) (t : Strip) → LowStrip t → LowStrip (prepend xs t)
+low-prepend xs (refused n) h = h
+low-prepend xs (pixels ys) h = tt
 
 low-decode : (second : Bool) (w k left c s : ℕ) (l : List Bool) → LowStrip (decode second w k left c s l)
 unfolding decode
@@ -146,18 +146,18 @@ low-picture h (code ∷ t) = low-kind h t (kindOf code)
 
 -- ---- rows of a mask
 
-low-rows : (l : List ℕ) (k : ℕ) (p : Owed) → LowStrip (rowsOf l k p)
+low-rows : (l : List ℕ) (k : ℕ) (p : Pending) → LowStrip (rowsOf l k p)
 unfolding rowsOf
 low-rows [] zero p = tt
 low-rows [] (suc k) p = omega arith
 low-rows (b ∷ t) zero p = tt
-low-rows (b ∷ t) (suc k) (copies n) = low-glue (replicate n b) (rowsOf t (suc k - n) (literals zero)) (low-rows t (suc k - n) (literals zero))
+low-rows (b ∷ t) (suc k) (copies n) = low-prepend (replicate n b) (rowsOf t (suc k - n) (literals zero)) (low-rows t (suc k - n) (literals zero))
 low-rows (b ∷ t) (suc k) (literals (suc n)) = low-onto b (rowsOf t k (literals n)) (low-rows t k (literals n))
 low-rows (b ∷ t) (suc k) (literals zero) = on (planOf (suc k) b) (λ p. low-rows t (suc k) p)
   where
-    on : (q : Plan) → ((p : Owed) → LowStrip (rowsOf t (suc k) p)) → LowStrip (elim q [ past ↦ refused 8 | owe p ↦ rowsOf t (suc k) p ])
+    on : (q : Plan) → ((p : Pending) → LowStrip (rowsOf t (suc k) p)) → LowStrip (elim q [ past ↦ refused 8 | leaves p ↦ rowsOf t (suc k) p ])
     on past rest = omega arith
-    on (owe p) rest = rest p
+    on (leaves p) rest = rest p
 
 -- ---- tests
 
@@ -246,9 +246,7 @@ fault-passed planes s o st e =
 -- ---- a verdict is right
 
 last-two : (p d e : Bool) → (p && d && e) ≡ true → (d ≡ true) × (e ≡ true)
-last-two true true e h = (refl, h)
-last-two true false e h = absurd (false≢true h)
-last-two false d e h = absurd (false≢true h)
+last-two p d e h = (and-right p d (and-left (p && d) e h), and-right (p && d) e h)
 
 module _ (s : List ℕ) (r : Room) (o st : ℕ) where
   -- an image whose size is allowed is no larger than the room
@@ -442,7 +440,7 @@ module _ (s : List ℕ) (r : Room) (t : List ℕ) (all : r .objects ≡ objectCo
     outside : 11 ≡ verdictOf v (r .objects) o st → false ≡ drawable s o st → Cell v o st
 
   no-object : (o : ℕ) → objectCount s < o → isObject s o ≡ false
-  no-object o lt = rw (lt-leb o (objectCount s) lt) (and-false (leb 1 o) false refl)
+  no-object o lt = rw (lt-leb o (objectCount s) lt) (and-false (leb 1 o))
 
   cell-of : (v : List ℕ) (o st : ℕ) → Cell v o st
   cell-of v o st = on (eqb o 0) (leb o (r .objects)) (eqb st 0) (leb st 9) refl refl refl refl
@@ -461,7 +459,7 @@ module _ (s : List ℕ) (r : Room) (t : List ℕ) (all : r .objects ≡ objectCo
       on false true false false ea eb ec ed =
           let l = leb-false st 9 ed in
           outside (verdict-over v (r .objects) o st (eqb-false o 0 ea) (leb-true o (r .objects) eb) (eqb-false st 0 ec) l)
-          (drawable-state s o st (imageCount s o) refl (rw (lt-leb st 9 l, and-false (leb 1 st) false refl)))
+          (drawable-state s o st (imageCount s o) refl (rw (lt-leb st 9 l, and-false (leb 1 st))))
       on false true false true ea eb ec ed =
           let no = eqb-false o 0 ea in
           let nst = eqb-false st 0 ec in

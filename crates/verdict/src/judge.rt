@@ -18,13 +18,13 @@ use block::Found;
 use image::state::image_drawable;
 use image::state::state_block;
 use image::test::test_image;
-use replay::tables::wide;
+use number::buffer::fill;
+use number::wide_u32;
 use room::Room;
 use scene::Call;
 use scene::Step;
 use stored::bytes::count;
 use stored::bytes::step_at;
-use strip::filling::fill;
 use table::Test;
 
 // What a cell holds before its image is judged: no verdict is 255.
@@ -39,8 +39,8 @@ fn verdict_of(room: &[u8], r: Room, table: &[u32], o: usize, s: usize) -> u8
     if !image_drawable(room, table, r.objects, o, s) {
         return 11;
     }
-    let width = wide(table[8 * o + 3]);
-    let height = wide(table[8 * o + 4]);
+    let width = wide_u32(table[8 * o + 3]);
+    let height = wide_u32(table[8 * o + 4]);
     if r.width < width {
         return 0;
     }
@@ -92,8 +92,8 @@ fn judge_step(room: &[u8], r: Room, table: &[u32], step: Step, verdicts: &mut [u
 {
     match step {
         Step::Draw(object, state, _) => {
-            let o = wide(object);
-            let s = wide(state);
+            let o = wide_u32(object);
+            let s = wide_u32(state);
             judge_image(room, r, table, o, s, verdicts);
         }
         Step::Hide(_) => {}

@@ -15,7 +15,7 @@ use lib.Dec.{lit<}
 use Rattle.bits.specs.Bits.{lowBits}
 use Rattle.strip.specs.Strip.{plus, minus}
 use Rattle.bits.proofs.BitLaws.{low-join, length-low}
-use Rattle.strip.proofs.FillLaws.{drop-more}
+use Rattle.number.proofs.BufferLaws.{drop-more}
 use Rattle.writer.specs.declared.BitWriter.{BitWriter}
 use Rattle.writer.specs.Pack.{packed}
 use Rattle.writer.specs.Pixels.{opBits, stepOf}
@@ -37,12 +37,12 @@ new-bits v =
     ap (lowBits 10) e ∙ low-join 2 8 1 v (lit< tt)
 
 module _ (colour step v : ℕ) where
-  pub op-keep : v ≡ colour → OpCoded colour step v (record { count = 1; bits = 0; step = step })
+  pub op-keep : v ≡ colour → OpCoded colour step v (record { count = 1; value = 0; step = step })
   unfolding opBits stepOf lowBits
   op-keep e = record { means = rw (eq-eqb v colour e); few = lit< tt; low = lit< tt; after = rw (eq-eqb v colour e) }
 
   module _ (ne : v ≡ colour → ⊥) where
-    pub op-down : v ≡ minus colour step → OpCoded colour step v (record { count = 3; bits = 3; step = step })
+    pub op-down : v ≡ minus colour step → OpCoded colour step v (record { count = 3; value = 3; step = step })
     unfolding opBits stepOf lowBits
     op-down e =
         record {
@@ -53,7 +53,7 @@ module _ (colour step v : ℕ) where
         }
 
     module _ (nd : v ≡ minus colour step → ⊥) where
-      pub op-up : (t : ℕ) → minus 0 step ≡ t → v ≡ plus colour step → OpCoded colour step v (record { count = 3; bits = 7; step = t })
+      pub op-up : (t : ℕ) → minus 0 step ≡ t → v ≡ plus colour step → OpCoded colour step v (record { count = 3; value = 7; step = t })
       unfolding opBits stepOf lowBits
       op-up t f e =
           record {
@@ -63,7 +63,7 @@ module _ (colour step v : ℕ) where
             after = rw (ne-eqb v colour ne, ne-eqb v (minus colour step) nd, eq-eqb v (plus colour step) e) (sym f);
           }
 
-      pub op-new : (v ≡ plus colour step → ⊥) → v < 256 → OpCoded colour step v (record { count = 10; bits = 1 + 4 * v; step = 1 })
+      pub op-new : (v ≡ plus colour step → ⊥) → v < 256 → OpCoded colour step v (record { count = 10; value = 1 + 4 * v; step = 1 })
       unfolding opBits stepOf
       op-new e b =
           record {
@@ -80,47 +80,47 @@ store : (d : List ℕ) (at b : ℕ) (t : List ℕ) → at < length d → take at
 store d at b t h =
     sym (append-assoc (take at d) (b ∷ []) t) ∙ ap (λ (p : List ℕ). p ++ t) (sym (rw (← add-one) at (take-suc-set {A = ℕ} d at b h)))
 
-pub flush-none : (d : List ℕ) (p : BitWriter) → p .hand < 2 ^ p .have → BitsPut d d p p []
+pub flush-none : (d : List ℕ) (p : BitWriter) → p .hold < 2 ^ p .bits → BitsPut d d p p []
 flush-none d p h = record { same = λ l. refl; on = le-refl (p .at); past = refl; whole = refl; low = h }
 
-pub flush-one : (d : List ℕ) (p : BitWriter) → p .hand < 2 ^ p .have → 8 ≤ p .have → p .at < length d
-    → BitsPut d (set d (p .at) (p .hand % 256)) p (record { at = p .at + 1; have = p .have - 8; hand = p .hand / 256 }) []
+pub flush-one : (d : List ℕ) (p : BitWriter) → p .hold < 2 ^ p .bits → 8 ≤ p .bits → p .at < length d
+    → BitsPut d (set d (p .at) (p .hold % 256)) p (record { at = p .at + 1; bits = p .bits - 8; hold = p .hold / 256 }) []
 unfolding bytesWith
 flush-one d p h eight room =
-    let b = p .hand % 256 in
-    let back : p .have - 8 + 8 ≡ p .have = omega arith in
+    let b = p .hold % 256 in
+    let back : p .bits - 8 + 8 ≡ p .bits = omega arith in
     record {
       same = λ l.
-          ap (λ (q : List Bool). take (p .at) d ++ packed (q ++ l)) (low-eight (p .have) (p .hand) eight)
-          ∙ ap (λ (q : List Bool). take (p .at) d ++ packed q) (append-assoc (lowBits 8 b) (lowBits (p .have - 8) (p .hand / 256)) l)
-          ∙ ap (λ (q : List ℕ). take (p .at) d ++ q) (packed-byte b (lowBits (p .have - 8) (p .hand / 256) ++ l) (omega arith))
-          ∙ store d (p .at) b (packed (lowBits (p .have - 8) (p .hand / 256) ++ l)) room;
+          ap (λ (q : List Bool). take (p .at) d ++ packed (q ++ l)) (low-eight (p .bits) (p .hold) eight)
+          ∙ ap (λ (q : List Bool). take (p .at) d ++ packed q) (append-assoc (lowBits 8 b) (lowBits (p .bits - 8) (p .hold / 256)) l)
+          ∙ ap (λ (q : List ℕ). take (p .at) d ++ q) (packed-byte b (lowBits (p .bits - 8) (p .hold / 256) ++ l) (omega arith))
+          ∙ store d (p .at) b (packed (lowBits (p .bits - 8) (p .hold / 256) ++ l)) room;
       on = omega arith;
       past = drop-set-lt (p .at + 1) d (p .at) b (omega arith);
       whole = length-set d (p .at) b;
-      low = shr-lt (p .have - 8) 8 (rw back h);
+      low = shr-lt (p .bits - 8) 8 (rw back h);
     }
 
--- the bits of a number follow those in hand
-pub join-low : (p : BitWriter) (count bits : ℕ) → p .hand < 2 ^ p .have → bits < 2 ^ count → p .hand + bits * 2 ^ p .have < 2 ^ (p .have + count)
-join-low p count bits h b =
-    let top : bits * 2 ^ p .have + p .hand < 2 ^ count * 2 ^ p .have = digits-lt b h in
-    let e : p .have + count ≡ count + p .have = omega arith in
+-- the bits of a number follow those held
+pub join-low : (p : BitWriter) (count value : ℕ) → p .hold < 2 ^ p .bits → value < 2 ^ count → p .hold + value * 2 ^ p .bits < 2 ^ (p .bits + count)
+join-low p count value h b =
+    let top : value * 2 ^ p .bits + p .hold < 2 ^ count * 2 ^ p .bits = digits-lt b h in
+    let e : p .bits + count ≡ count + p .bits = omega arith in
     rw (e, pow-add) (omega (arith, top))
 
-pub join-shift : (p : BitWriter) (count bits : ℕ) → p .have ≤ 7 → count ≤ 10 → bits < 2 ^ count → bits * 2 ^ p .have % 2 ^ 32 ≡ bits * 2 ^ p .have
-join-shift p count bits few ten b = shl-exact count (p .have) 32 b (omega arith)
+pub join-shift : (p : BitWriter) (count value : ℕ) → p .bits ≤ 7 → count ≤ 10 → value < 2 ^ count → value * 2 ^ p .bits % 2 ^ 32 ≡ value * 2 ^ p .bits
+join-shift p count value few ten b = shl-exact count (p .bits) 32 b (omega arith)
 
-module _ (d e f : List ℕ) (p q r : BitWriter) (count bits : ℕ) where
-  pub bits-put : p .hand < 2 ^ p .have
-      → BitsPut d e (record { at = p .at; have = p .have + count; hand = p .hand + bits * 2 ^ p .have }) q [] → BitsPut e f q r []
-      → BitsPut d f p r (lowBits count bits)
+module _ (d e f : List ℕ) (p q r : BitWriter) (count value : ℕ) where
+  pub bits-put : p .hold < 2 ^ p .bits
+      → BitsPut d e (record { at = p .at; bits = p .bits + count; hold = p .hold + value * 2 ^ p .bits }) q [] → BitsPut e f q r []
+      → BitsPut d f p r (lowBits count value)
   unfolding bytesWith
   bits-put h one two =
       record {
         same = λ l.
             ap (λ (t : List Bool). take (p .at) d ++ packed t)
-            (sym (append-assoc (lowBits (p .have) (p .hand)) (lowBits count bits) l) ∙ ap (λ (t : List Bool). t ++ l) (sym (low-join (p .have) count (p .hand) bits h)))
+            (sym (append-assoc (lowBits (p .bits) (p .hold)) (lowBits count value) l) ∙ ap (λ (t : List Bool). t ++ l) (sym (low-join (p .bits) count (p .hold) value h)))
             ∙ one .same l
             ∙ two .same l;
         on = le-trans (one .on) (two .on);
@@ -131,22 +131,22 @@ module _ (d e f : List ℕ) (p q r : BitWriter) (count bits : ℕ) where
 
 -- ---- the last byte
 
-pub finish-none : (d : List ℕ) (p : BitWriter) → p .have ≡ 0 → take (p .at) d ≡ bytesWith d p []
+pub finish-none : (d : List ℕ) (p : BitWriter) → p .bits ≡ 0 → take (p .at) d ≡ bytesWith d p []
 unfolding bytesWith lowBits packed
-finish-none d p e = sym (ap (λ (n : ℕ). take (p .at) d ++ packed (lowBits n (p .hand) ++ [])) e ∙ append-nil (take (p .at) d))
+finish-none d p e = sym (ap (λ (n : ℕ). take (p .at) d ++ packed (lowBits n (p .hold) ++ [])) e ∙ append-nil (take (p .at) d))
 
-pub finish-one : (d : List ℕ) (p : BitWriter) → p .hand < 2 ^ p .have → (p .have ≡ 0 → ⊥) → p .have ≤ 7 → p .at < length d
-    → take (p .at + 1) (set d (p .at) (p .hand)) ≡ bytesWith d p []
+pub finish-one : (d : List ℕ) (p : BitWriter) → p .hold < 2 ^ p .bits → (p .bits ≡ 0 → ⊥) → p .bits ≤ 7 → p .at < length d
+    → take (p .at + 1) (set d (p .at) (p .hold)) ≡ bytesWith d p []
 unfolding bytesWith
 finish-one d p h some few room =
-    let len : length (lowBits (p .have) (p .hand)) ≡ p .have = length-low (p .have) (p .hand) in
-    let one : packed (lowBits (p .have) (p .hand)) ≡ p .hand ∷ [] =
-    packed-last (lowBits (p .have) (p .hand)) (omega arith) (omega arith) ∙ ap (λ (x : ℕ). x ∷ []) (value-low (p .have) (p .hand) ∙ mod-eq-of-lt h) in
+    let len : length (lowBits (p .bits) (p .hold)) ≡ p .bits = length-low (p .bits) (p .hold) in
+    let one : packed (lowBits (p .bits) (p .hold)) ≡ p .hold ∷ [] =
+    packed-last (lowBits (p .bits) (p .hold)) (omega arith) (omega arith) ∙ ap (λ (x : ℕ). x ∷ []) (value-low (p .bits) (p .hold) ∙ mod-eq-of-lt h) in
     sym
-    (ap (λ (t : List Bool). take (p .at) d ++ packed t) (append-nil (lowBits (p .have) (p .hand)))
+    (ap (λ (t : List Bool). take (p .at) d ++ packed t) (append-nil (lowBits (p .bits) (p .hold)))
     ∙ ap (λ (t : List ℕ). take (p .at) d ++ t) one
-    ∙ store d (p .at) (p .hand) [] room
-    ∙ append-nil (take (p .at + 1) (set d (p .at) (p .hand))))
+    ∙ store d (p .at) (p .hold) [] room
+    ∙ append-nil (take (p .at + 1) (set d (p .at) (p .hold))))
 
-pub hand-byte : (p : BitWriter) → p .hand < 2 ^ p .have → p .have ≤ 7 → p .hand < 2 ^ 8
-hand-byte p h few = omega (arith, pow-mono few)
+pub hold-byte : (p : BitWriter) → p .hold < 2 ^ p .bits → p .bits ≤ 7 → p .hold < 2 ^ 8
+hold-byte p h few = omega (arith, pow-mono few)

@@ -4,11 +4,9 @@ use mathlib.Core.Bool.{Bool, true, false, _&&_, cond}
 use mathlib.Core.List.{List, [], _∷_}
 use Prim.Native.Nat.{ℕ, zero, suc, _+_, _≤_, _<_}
 use native.Mathlib.Nat.{add-zero}
-use native.Mathlib.Numerals.{add-one}
 use native.Mathlib.Omega.{arith}
 use borrow.Author.Tests.{eq-eqb, ne-eqb}
-use lib.ListN.{length, getD, drop, set, drop-of-length-le, length-drop}
-use lib.Seq.{paste, paste-suc, getD-drop}
+use lib.ListN.{length, getD, drop, drop-of-length-le}
 use lib.Dec.{eqb}
 use Rattle.plane.proofs.MaskLaws.{from-at}
 use Rattle.writer.specs.Rows.{runLength, literalLength, allZero}
@@ -100,10 +98,3 @@ module _ (whole : Bool) (i : ℕ) (s : List ℕ) (so-far : whole ≡ allZero (dr
   pub zero-goes : i < length s → getD s i 0 ≡ 0 → whole ≡ allZero (drop (i + 1) s)
   unfolding allZero
   zero-goes h eq = so-far ∙ ap allZero (from-at s i h) ∙ ap (λ (p : Bool). p && allZero (drop (i + 1) s)) (eq-eqb (getD s i 0) 0 eq)
-
--- ---- a copy
-
-pub copy-goes : (d src : List ℕ) (at from k : ℕ) → at + k < length d → from + k < length src
-    → set (paste d at (drop from src) k) (at + k) (getD src (from + k) 0) ≡ paste d at (drop from src) (k + 1)
-copy-goes d src at from k hd hs =
-    rw (add-one) (ap (set (paste d at (drop from src) k) (at + k)) (sym (getD-drop from src k 0)) ∙ paste-suc d at (drop from src) k 0 hd (omega (arith, length-drop from src)))

@@ -71,7 +71,7 @@ ops-back c s (v ∷ vs) l hc hs b =
     ∙ decode-go false 8 (suc (length vs)) (length vs) 0 c s (opBits c s v ++ (opsBits v (stepOf c s v) vs ++ l)) refl 0 v (stepOf c s v) (opsBits v (stepOf c s v) vs ++ l) (move-back (length vs) c s v (opsBits v (stepOf c s v) vs ++ l) hc hs (b 0))
     ∙ ap (onto v) (ops-back v (stepOf c s v) vs l (b 0) (step-byte c s v hs) (λ i. b (suc i)))
 
--- the first colour is owed at the start
+-- the first colour is pending at the start
 first-back : (c : ℕ) (vs : List ℕ) (h : ℕ) (l t : List Bool) → 8 * h ≡ suc (length vs) → t ≡ opsBits c 1 vs ++ l → Bytes (c ∷ vs)
     → decode false 8 (8 * h) 1 c 1 t ≡ pixels (c ∷ vs)
 first-back c vs h l t e f b =

@@ -10,10 +10,10 @@ use borrow.Author.Tests.{eqb-true, eq-eqb, leb-true, leb-false}
 use lib.ListN.{length, length-append, length-drop, take, drop, replicate, take-append-drop}
 use lib.Seq.{length-take-le}
 use lib.Dec.{eqb, leb}
-use Rattle.strip.specs.Strip.{Strip, refused, pixels, onto, glue}
-use Rattle.plane.specs.Mask.{literals, copies, owe, rowsOf}
+use Rattle.strip.specs.Strip.{Strip, refused, pixels, onto, prepend}
+use Rattle.plane.specs.Mask.{literals, copies, leaves, rowsOf}
 use Rattle.plane.proofs.MaskLaws.{plan-literals, plan-copies, rows-op, rows-copies, rows-done}
-use Rattle.strip.proofs.StripLaws.{glue-none}
+use Rattle.strip.proofs.StripLaws.{prepend-none}
 use Rattle.writer.specs.Rows.{runLength, literalLength, opRows, opBytes, opsBytes, allZero, rowsBody}
 
 -- ---- counts
@@ -116,30 +116,30 @@ row-ops-step x t =
 
 -- ---- what is written is read back
 
-onto-glue : (x : ℕ) (xs : List ℕ) (s : Strip) → onto x (glue xs s) ≡ glue (x ∷ xs) s
-onto-glue x xs (refused n) = refl
-onto-glue x xs (pixels ys) = refl
+onto-prepend : (x : ℕ) (xs : List ℕ) (s : Strip) → onto x (prepend xs s) ≡ prepend (x ∷ xs) s
+onto-prepend x xs (refused n) = refl
+onto-prepend x xs (pixels ys) = refl
 
-lits-back : (xs u : List ℕ) (k : ℕ) → rowsOf (xs ++ u) (length xs + k) (literals (length xs)) ≡ glue xs (rowsOf u k (literals 0))
+lits-back : (xs u : List ℕ) (k : ℕ) → rowsOf (xs ++ u) (length xs + k) (literals (length xs)) ≡ prepend xs (rowsOf u k (literals 0))
 unfolding rowsOf
-lits-back [] u k = glue-none _ ∙ ap (λ (n : ℕ). glue [] (rowsOf u n (literals 0))) (zero-add k)
+lits-back [] u k = prepend-none _ ∙ ap (λ (n : ℕ). prepend [] (rowsOf u n (literals 0))) (zero-add k)
 lits-back (x ∷ xs) u k =
     ap (λ (n : ℕ). rowsOf (x ∷ (xs ++ u)) n (literals (suc (length xs)))) (suc-add (length xs) k)
     ∙ ap (onto x) (lits-back xs u k)
-    ∙ onto-glue x xs (rowsOf u k (literals 0))
+    ∙ onto-prepend x xs (rowsOf u k (literals 0))
 
 module _ (x : ℕ) (t u : List ℕ) where
   run-back : (r : ℕ) → 2 ≤ r → r ≤ 127 → r ≤ suc (length t) → take r (x ∷ t) ≡ replicate r x
-      → rowsOf ((0x80 + r) ∷ x ∷ u) (suc (length t)) (literals 0) ≡ glue (take r (x ∷ t)) (rowsOf u (suc (length t) - r) (literals 0))
+      → rowsOf ((0x80 + r) ∷ x ∷ u) (suc (length t)) (literals 0) ≡ prepend (take r (x ∷ t)) (rowsOf u (suc (length t) - r) (literals 0))
   run-back r two most inside same =
       let back : (0x80 + r) - 0x80 ≡ r = omega arith in
       rows-op ((0x80 + r) ∷ x ∷ u) (x ∷ u) (0x80 + r) refl (suc (length t)) 0 (copies r) (omega arith) zero-le
-      (plan-copies (suc (length t)) (0x80 + r) (omega arith) (omega arith) ∙ ap (λ (n : ℕ). owe (copies n)) back)
+      (plan-copies (suc (length t)) (0x80 + r) (omega arith) (omega arith) ∙ ap (λ (n : ℕ). leaves (copies n)) back)
       ∙ rows-copies (x ∷ u) u x refl (suc (length t)) r (omega arith)
-      ∙ ap (λ (q : List ℕ). glue q (rowsOf u (suc (length t) - r) (literals 0))) (sym same)
+      ∙ ap (λ (q : List ℕ). prepend q (rowsOf u (suc (length t) - r) (literals 0))) (sym same)
 
   literal-back : (r : ℕ) → 1 ≤ r → r ≤ 127 → r ≤ suc (length t)
-      → rowsOf (r ∷ (take r (x ∷ t) ++ u)) (suc (length t)) (literals 0) ≡ glue (take r (x ∷ t)) (rowsOf u (suc (length t) - r) (literals 0))
+      → rowsOf (r ∷ (take r (x ∷ t) ++ u)) (suc (length t)) (literals 0) ≡ prepend (take r (x ∷ t)) (rowsOf u (suc (length t) - r) (literals 0))
   literal-back r one most inside =
       let len : length (take r (x ∷ t)) ≡ r = length-take-le r (x ∷ t) inside in
       let all : suc (length t) ≡ length (take r (x ∷ t)) + (suc (length t) - r) = omega arith in
@@ -148,11 +148,11 @@ module _ (x : ℕ) (t u : List ℕ) where
       ∙ ap₂ (λ (n k : ℕ). rowsOf (take r (x ∷ t) ++ u) n (literals k)) all (sym len)
       ∙ lits-back (take r (x ∷ t)) u (suc (length t) - r)
 
-  row-op-back : rowsOf (opBytes x t ++ u) (suc (length t)) (literals 0) ≡ glue (take (opRows x t) (x ∷ t)) (rowsOf u (suc (length t) - opRows x t) (literals 0))
+  row-op-back : rowsOf (opBytes x t ++ u) (suc (length t)) (literals 0) ≡ prepend (take (opRows x t) (x ∷ t)) (rowsOf u (suc (length t) - opRows x t) (literals 0))
   row-op-back = go (leb 2 (runLength 127 x (x ∷ t))) refl
     where
       whole : List ℕ → ℕ → Type 0
-      whole p r = rowsOf (p ++ u) (suc (length t)) (literals 0) ≡ glue (take r (x ∷ t)) (rowsOf u (suc (length t) - r) (literals 0))
+      whole p r = rowsOf (p ++ u) (suc (length t)) (literals 0) ≡ prepend (take r (x ∷ t)) (rowsOf u (suc (length t) - r) (literals 0))
 
       go : (p : Bool) → leb 2 (runLength 127 x (x ∷ t)) ≡ p → whole (opBytes x t) (opRows x t)
       go true e =
@@ -174,8 +174,8 @@ row-ops-back (suc n) (x ∷ t) h =
     let len : length (drop r (x ∷ t)) ≡ suc (length t) - r = length-drop r (x ∷ t) in
     ap (λ (b : List ℕ). rowsOf b (suc (length t)) (literals 0)) (row-ops-step x t)
     ∙ row-op-back x t (opsBytes 0 (drop r (x ∷ t)))
-    ∙ ap (λ (m : ℕ). glue (take r (x ∷ t)) (rowsOf (opsBytes 0 (drop r (x ∷ t))) m (literals 0))) (sym len)
-    ∙ ap (glue (take r (x ∷ t))) (row-ops-back n (drop r (x ∷ t)) (omega arith))
+    ∙ ap (λ (m : ℕ). prepend (take r (x ∷ t)) (rowsOf (opsBytes 0 (drop r (x ∷ t))) m (literals 0))) (sym len)
+    ∙ ap (prepend (take r (x ∷ t))) (row-ops-back n (drop r (x ∷ t)) (omega arith))
     ∙ ap pixels (take-append-drop r (x ∷ t))
 
 -- rows that are all zero are so many zeros

@@ -7,7 +7,7 @@ use native.Mathlib.Numerals.{add-one}
 use native.Mathlib.Omega.{arith}
 use borrow.Author.Tests.{le-leb, lt-leb}
 use lib.ListN.{length, getD, take, drop, set, length-append, length-set, length-drop, drop-of-length-le}
-use lib.Seq.{drop-drop, paste, take-paste, drop-paste, length-paste, take-suc-set, drop-set-lt, length-take-le}
+use lib.Seq.{drop-drop, take-suc-set, drop-set-lt, length-take-le}
 use lib.Dec.{leb}
 use Rattle.strip.specs.Picture.{over}
 use Rattle.writer.specs.Rows.{runLength, literalLength, opRows, opBytes, opsBytes, allZero, rowsBody}
@@ -95,21 +95,22 @@ module _ (rows d : List ℕ) (y at : ℕ) (lt : y < length rows) (room : at + le
       (length-set one (at + 1) x ∙ l1)
 
   pub literal-written : (m : ℕ) (e : List ℕ) → Next rows d y at (m ∷ take m (drop y rows)) m
-      → e ≡ paste (set d at m) (at + 1) (drop y rows) m
+      → take (at + 1 + m) e ≡ take (at + 1) (set d at m) ++ take m (drop y rows)
+      → drop (at + 1 + m) e ≡ drop (at + 1 + m) (set d at m)
+      → length e ≡ length (set d at m)
       → OpWritten rows d e y at (record { y = y + m; at = at + 1 + m })
-  literal-written m e k f =
+  literal-written m e k stored behind whole =
       let s = drop y rows in
       let one = set d at m in
       let l1 : length one ≡ length d = length-set d at m in
       let ls : m ≤ length s = omega (arith, k .inside, length-drop y rows) in
       let lt : length (take m s) ≡ m = length-take-le m s ls in
       op-written e (m ∷ take m s) m (at + 1 + m) k (omega arith)
-      (ap (take (at + 1 + m)) f
-      ∙ take-paste one (at + 1) s m (omega (arith, k .room)) ls
+      (stored
       ∙ ap (λ (q : List ℕ). q ++ take m s) (rw (← add-one) at (take-suc-set {A = ℕ} d at m (omega (arith, k .room))))
       ∙ append-assoc (take at d) (m ∷ []) (take m s))
-      (ap (drop (at + 1 + m)) f ∙ drop-paste one (at + 1) s m (omega (arith, k .room)) ls ∙ drop-set-lt (at + 1 + m) d at m (omega arith))
-      (ap length f ∙ length-paste one (at + 1) s m (omega (arith, k .room)) ls ∙ l1)
+      (behind ∙ drop-set-lt (at + 1 + m) d at m (omega arith))
+      (whole ∙ l1)
 
 -- ---- all of them
 

@@ -27,7 +27,7 @@ length-strip [] h = absurd (omega arith)
 length-strip (c ∷ vs) h = omega (arith, length-packed (opsBits c 1 vs))
 
 pub start : (px d : List ℕ) → 1 ≤ length px → 2 ≤ length d
-    → stripBody px ≡ bytesWith (set (set d 0 0x1C) 1 (getD px 0 0)) (record { at = 2; have = 0; hand = 0 }) (opsBits (getD px 0 0) 1 (drop 1 px))
+    → stripBody px ≡ bytesWith (set (set d 0 0x1C) 1 (getD px 0 0)) (record { at = 2; bits = 0; hold = 0 }) (opsBits (getD px 0 0) 1 (drop 1 px))
 unfolding stripBody bytesWith lowBits
 start [] d h k = absurd (omega arith)
 start (c ∷ vs) [] h k = absurd (omega arith)
@@ -67,13 +67,13 @@ pub record Writing (px d out : List ℕ) (writer : BitWriter) (colour step i : �
   pub whole : length out ≡ length d
   pub far : 2 ≤ writer .at
   pub past : drop (writer .at) out ≡ drop (writer .at) d
-  pub low : writer .hand < 2 ^ writer .have
-  pub few : writer .have ≤ 7
+  pub low : writer .hold < 2 ^ writer .bits
+  pub few : writer .bits ≤ 7
   pub room : bitCount writer + length (opsBits colour step (drop i px)) ≤ 8 * length out
   pub same : stripBody px ≡ bytesWith out writer (opsBits colour step (drop i px))
 
 pub writing-start : (px d : List ℕ) → 1 ≤ length px → length (stripBody px) ≤ length d
-    → Writing px (set (set d 0 0x1C) 1 (getD px 0 0)) (set (set d 0 0x1C) 1 (getD px 0 0)) (record { at = 2; have = 0; hand = 0 }) (getD px 0 0) 1 1
+    → Writing px (set (set d 0 0x1C) 1 (getD px 0 0)) (set (set d 0 0x1C) 1 (getD px 0 0)) (record { at = 2; bits = 0; hold = 0 }) (getD px 0 0) 1 1
 writing-start px d h room =
     let len = length-strip px h in
     let size : length (set (set d 0 0x1C) 1 (getD px 0 0)) ≡ length d = length-set (set d 0 0x1C) 1 (getD px 0 0) ∙ length-set d 0 0x1C in
@@ -99,12 +99,12 @@ module _ (px d out : List ℕ) (writer : BitWriter) (colour step i : ℕ) (w : W
   counted =
       ap length (ops-step colour step px i lt)
       ∙ length-append (opBits colour step (getD px i 0)) (opsBits (getD px i 0) (stepOf colour step (getD px i 0)) (drop (i + 1) px))
-      ∙ ap (λ (n : ℕ). n + next) (ap length (sym (k .means)) ∙ length-low (o .count) (o .bits))
+      ∙ ap (λ (n : ℕ). n + next) (ap length (sym (k .means)) ∙ length-low (o .count) (o .value))
 
   pub room-for : bitCount writer + o .count < 8 * length out + 8
   room-for = omega (arith, counted, w .room)
 
-  pub writing-more : (e : List ℕ) (q : BitWriter) → BitsPut out e writer q (lowBits (o .count) (o .bits)) → bitCount q ≡ bitCount writer + o .count → q .have ≤ 7
+  pub writing-more : (e : List ℕ) (q : BitWriter) → BitsPut out e writer q (lowBits (o .count) (o .value)) → bitCount q ≡ bitCount writer + o .count → q .bits ≤ 7
       → Writing px d e q (getD px i 0) (o .step) (i + 1)
   unfolding next
   writing-more e q p at few =

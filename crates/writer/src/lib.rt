@@ -3,29 +3,29 @@ ghost use mathlib.Core.Path.{_≡_};
 ghost use mathlib.Core.List.{[]};
 ghost use Prim.Native.Nat.{_+_, _-_, _*_, _^_, _≤_, _<_};
 ghost use lib.ListN.{length, getD, take, drop};
-ghost use lib.Seq.{paste};
 ghost use Rattle.bits.specs.Bits.{lowBits};
 ghost use Rattle.strip.specs.Picture.{over};
 ghost use Rattle.writer.specs.BitWriter.{bytesWith, bitCount, BitsPut, OpCoded};
 ghost use Rattle.writer.specs.Pixels.{stripBody};
 ghost use Rattle.writer.specs.Rows.{runLength, literalLength, opsBytes, allZero, rowsBody};
 ghost use Rattle.writer.specs.Place.{OpWritten};
+use number::buffer::copy;
 use std::num::wrapping_add_u8;
 use std::num::wrapping_sub_u8;
 
 // ---- strips of pixels
 
-// A place among the bits that are written: `have` bits in hand, lowest first, and the bytes before `at` done.
+// A place among the bits that are written: the bit buffer `hold`, its number of bits, lowest first, and the bytes before `at` done.
 pub struct BitWriter {
     pub at: usize,
-    pub have: u32,
-    pub hand: u32,
+    pub bits: u32,
+    pub hold: u32,
 }
 
-// An operation: `count` bits, lowest first, and the step after it.
+// An operation: `count` bits, lowest first, as a number, and the step after it.
 pub struct Op {
     pub count: u32,
-    pub bits: u32,
+    pub value: u32,
     pub step: u8,
 }
 
@@ -36,60 +36,61 @@ fn op_for(colour: u8, step: u8, v: u8) -> Op
     if v == colour {
         return Op {
             count: 1,
-            bits: 0,
+            value: 0,
             step: step,
         };
     }
     if v == wrapping_sub_u8(colour, step) {
         return Op {
             count: 3,
-            bits: 3,
+            value: 3,
             step: step,
         };
     }
     if v == wrapping_add_u8(colour, step) {
         return Op {
             count: 3,
-            bits: 7,
+            value: 7,
             step: wrapping_sub_u8(0, step),
         };
     }
     Op {
         count: 10,
-        bits: 1 + 4 * (v as u32),
+        value: 1 + 4 * (v as u32),
         step: 1,
     }
 }
 
-// One byte out, where eight bits are in hand.
+// One byte out, where eight bits are held.
 fn flush_byte(out: &mut [u8], writer: BitWriter) -> BitWriter
-    requires { ⌜ (writer .hand < 2 ^ writer .have) × (writer .have ≤ 17) × (bitCount writer < 8 * length (now out) + 8) ⌝ }
-    ensures { λ r. ⌜ BitsPut (now (out .entry)) (now (out .exit)) writer r [] × (bitCount r ≡ bitCount writer) × (r .have ≤ 7 + (writer .have - 15)) ⌝ }
+    requires { ⌜ (writer .hold < 2 ^ writer .bits) × (writer .bits ≤ 17) × (bitCount writer < 8 * length (now out) + 8) ⌝ }
+    ensures { λ r. ⌜ BitsPut (now (out .entry)) (now (out .exit)) writer r [] × (bitCount r ≡ bitCount writer) × (r .bits ≤ 7 + (writer .bits - 15)) ⌝ }
 {
     let at = writer.at;
-    let have = writer.have;
-    let hand = writer.hand;
-    if have < 8 {
+    let bits = writer.bits;
+    let hold = writer.hold;
+    if bits < 8 {
         return writer;
     }
-    out[at] = (hand % 256) as u8;
+    out[at] = (hold % 256) as u8;
     BitWriter {
         at: at + 1,
-        have: have - 8,
-        hand: hand / 256,
+        bits: bits - 8,
+        hold: hold / 256,
     }
 }
 
-// The bits of an operation follow those in hand. At most 17 are then in hand, so at most two bytes go out.
-fn put_bits(out: &mut [u8], writer: BitWriter, count: u32, bits: u32) -> BitWriter
-    requires { ⌜ (writer .hand < 2 ^ writer .have) × (writer .have ≤ 7) × (bits < 2 ^ count) × (count ≤ 10) × (bitCount writer + count < 8 * length (now out) + 8) ⌝ }
-    ensures { λ r. ⌜ BitsPut (now (out .entry)) (now (out .exit)) writer r (lowBits count bits) × (bitCount r ≡ bitCount writer + count) × (r .have ≤ 7) ⌝ }
+// The bits of an operation follow those held. At most 17 are then held, so at most two bytes go out.
+fn put_bits(out: &mut [u8], writer: BitWriter, count: u32, value: u32) -> BitWriter
+    requires { ⌜ (writer .hold < 2 ^ writer .bits) × (writer .bits ≤ 7) × (value < 2 ^ count) × (count ≤ 10)
+        × (bitCount writer + count < 8 * length (now out) + 8) ⌝ }
+    ensures { λ r. ⌜ BitsPut (now (out .entry)) (now (out .exit)) writer r (lowBits count value) × (bitCount r ≡ bitCount writer + count) × (r .bits ≤ 7) ⌝ }
 {
-    let have = writer.have;
+    let bits = writer.bits;
     let full = BitWriter {
         at: writer.at,
-        have: have + count,
-        hand: writer.hand + (bits << have),
+        bits: bits + count,
+        hold: writer.hold + (value << bits),
     };
     let some = flush_byte(out, full);
     flush_byte(out, some)
@@ -97,15 +98,16 @@ fn put_bits(out: &mut [u8], writer: BitWriter, count: u32, bits: u32) -> BitWrit
 
 // The last byte, padded with zeros, where bits are left: how many bytes there are.
 fn finish(out: &mut [u8], writer: BitWriter) -> usize
-    requires { ⌜ (writer .hand < 2 ^ writer .have) × (writer .have ≤ 7) × (bitCount writer ≤ 8 * length (now out)) ⌝ }
-    ensures { λ r. ⌜ (take r (now (out .exit)) ≡ bytesWith (now (out .entry)) writer []) × (drop r (now (out .exit)) ≡ drop r (now (out .entry))) × (writer .at ≤ r) × (r ≤ length (now (out .exit))) ⌝ }
+    requires { ⌜ (writer .hold < 2 ^ writer .bits) × (writer .bits ≤ 7) × (bitCount writer ≤ 8 * length (now out)) ⌝ }
+    ensures { λ r. ⌜ (take r (now (out .exit)) ≡ bytesWith (now (out .entry)) writer []) × (drop r (now (out .exit)) ≡ drop r (now (out .entry)))
+        × (writer .at ≤ r) × (r ≤ length (now (out .exit))) ⌝ }
 {
     let at = writer.at;
-    let have = writer.have;
-    if have == 0 {
+    let bits = writer.bits;
+    if bits == 0 {
         return at;
     }
-    out[at] = writer.hand as u8;
+    out[at] = writer.hold as u8;
     at + 1
 }
 
@@ -119,8 +121,8 @@ pub fn write_strip(px: &[u8], out: &mut [u8]) -> usize
     out[1] = first;
     let mut writer = BitWriter {
         at: 2,
-        have: 0,
-        hand: 0,
+        bits: 0,
+        hold: 0,
     };
     let mut colour = first;
     let mut step: u8 = 1;
@@ -128,7 +130,7 @@ pub fn write_strip(px: &[u8], out: &mut [u8]) -> usize
     while i < px.len() {
         let v = px[i];
         let o = op_for(colour, step, v);
-        writer = put_bits(out, writer, o.count, o.bits);
+        writer = put_bits(out, writer, o.count, o.value);
         colour = v;
         step = o.step;
         i += 1;
@@ -174,18 +176,6 @@ fn literal_length(rows: &[u8], y: usize) -> usize
         m = next;
     }
     m
-}
-
-// n bytes of `src` from `from` on, into `out` from `at` on.
-fn copy(src: &[u8], from: usize, n: usize, out: &mut [u8], at: usize)
-    requires { ⌜ (from + n ≤ length (now src)) × (at + n ≤ length (now out)) ⌝ }
-    ensures { λ _. ⌜ now (out .exit) ≡ paste (now (out .entry)) at (drop from (now (src .entry))) n ⌝ }
-{
-    let mut k: usize = 0;
-    while k < n {
-        out[at + k] = src[from + k];
-        k += 1;
-    }
 }
 
 // The rows from y on are to be written at `at`.

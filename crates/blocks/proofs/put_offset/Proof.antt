@@ -1,100 +1,35 @@
-use Rattle.blocks.proofs.StripBytesLaws.{size-two, size-four}
-use Rattle.blocks.proofs.PutLaws.{put-two, put-four}
-use Rattle.blocks.specs.Block.{offsetBytes}
-use denote.Ref.{now}
-use lib.ListN.{length-set}
 use native.Mathlib.Omega.{arith}
+use Rattle.blocks.specs.Block.{offsetBytes}
+use Rattle.blocks.proofs.StripBytesLaws.{size-two, size-four}
 use borrow.Author.Needs.{needs}
 use Rattle.blocks.proofs.put_offset.Statement.{statement}
 use Rattle.blocks.proofs.put_offset.Tie as tie
+use Rattle.blocks.proofs.put_offset.Reads as reads
+use Rattle.blocks.proofs.put_offset.Lts as lts
+use Rattle.number.proofs.put_le16.Reads as put-le16-reads
+use Rattle.number.proofs.put_le32.Reads as put-le32-reads
 
-cast-out : tie.Need-cast-out
-cast-out c = search needs
+put-le16-requires : tie.Need-put-le16-requires
+put-le16-requires c κs = let e = size-two (c .before .before .before .args .mask) (c .before .if1 .taken) in omega arith
 
-slice-write-out : tie.Need-slice-write-out
-slice-write-out c = let e = size-two (c .before .args .mask) (c .if1 .taken) in omega arith
-
-cast-out-2 : tie.Need-cast-out-2
-cast-out-2 c = search needs
-
-add-out : tie.Need-add-out
-add-out c = search needs
-
-slice-write-out-2 : tie.Need-slice-write-out-2
-slice-write-out-2 c = let e = size-two (c .before .args .mask) (c .if1 .taken) in simp length-set (omega arith)
+put-le32-requires : tie.Need-put-le32-requires
+put-le32-requires c κs = let e = size-four (c .before .before .before .args .mask) (c .before .if1 .left) in omega arith
 
 same-length : tie.Need-same-length
 same-length c = search needs
 
 returns : tie.Need-returns
 unfolding offsetBytes
-returns c =
-    let e = size-two (c .before .args .mask) (c .if1 .taken) in
-    rw (c .if1 .taken) (put-two (now (c .before .args .out)) (c .before .args .at) _ _ (omega arith))
-
-cast-out-3 : tie.Need-cast-out-3
-cast-out-3 c = search needs
-
-slice-write-out-3 : tie.Need-slice-write-out-3
-slice-write-out-3 c = let e = size-four (c .before .args .mask) (c .if1 .left) in omega arith
-
-cast-out-4 : tie.Need-cast-out-4
-cast-out-4 c = search needs
-
-add-out-2 : tie.Need-add-out-2
-add-out-2 c = search needs
-
-slice-write-out-4 : tie.Need-slice-write-out-4
-slice-write-out-4 c = let e = size-four (c .before .args .mask) (c .if1 .left) in simp length-set (omega arith)
-
-cast-out-5 : tie.Need-cast-out-5
-cast-out-5 c = search needs
-
-add-out-3 : tie.Need-add-out-3
-add-out-3 c = search needs
-
-slice-write-out-5 : tie.Need-slice-write-out-5
-slice-write-out-5 c = let e = size-four (c .before .args .mask) (c .if1 .left) in simp length-set (omega arith)
-
-cast-out-6 : tie.Need-cast-out-6
-cast-out-6 c = search needs
-
-add-out-4 : tie.Need-add-out-4
-add-out-4 c = search needs
-
-slice-write-out-6 : tie.Need-slice-write-out-6
-slice-write-out-6 c = let e = size-four (c .before .args .mask) (c .if1 .left) in simp length-set (omega arith)
+returns c = rw (c .before .before .before .before .if1 .taken) (c .before .before .put-le16 .ensures)
 
 same-length-2 : tie.Need-same-length-2
 same-length-2 c = search needs
 
 returns-2 : tie.Need-returns-2
 unfolding offsetBytes
-returns-2 c =
-    let e = size-four (c .before .args .mask) (c .if1 .left) in
-    rw (c .if1 .left) (put-four (now (c .before .args .out)) (c .before .args .at) _ _ _ _ (omega arith))
+returns-2 c = rw (c .before .before .before .before .if1 .left) (c .before .before .put-le32 .ensures)
 
 pub put-offset-spec : {M : Type 1} → statement M
 put-offset-spec =
     tie.close
-    (tie.spec
-    cast-out
-    slice-write-out
-    cast-out-2
-    add-out
-    slice-write-out-2
-    same-length
-    returns
-    cast-out-3
-    slice-write-out-3
-    cast-out-4
-    add-out-2
-    slice-write-out-4
-    cast-out-5
-    add-out-3
-    slice-write-out-5
-    cast-out-6
-    add-out-4
-    slice-write-out-6
-    same-length-2
-    returns-2)
+    (tie.spec put-le16-requires put-le32-requires same-length returns same-length-2 returns-2)

@@ -1,12 +1,12 @@
+use Rattle.number.specs.Number.{be32Bytes}
 use Rattle.blocks.proofs.CallLaws.{length-big-endian, block-done, short-source, short-target, whole-block}
 use Rattle.blocks.proofs.FillLaws.{offsets-few}
-use Rattle.blocks.proofs.PutLaws.{put-length}
 use Rattle.blocks.specs.Call.{sourceSize}
 use Rattle.table.specs.Table.{tableEnd, offsetSize}
-use Rattle.blocks.specs.Block.{bodyFor, bodiesFrom, sizeOf, bigEndian}
-use Rattle.blocks.specs.Put.{putAt}
+use Rattle.blocks.specs.Block.{bodyFor, bodiesFrom, sizeOf}
 use denote.Ref.{now}
 use lib.ListN.{length}
+use lib.Seq.{sets, length-sets}
 use Prim.Native.Nat.{ℕ, _+_, _*_, _≤_}
 use mathlib.Core.List.{List}
 use mathlib.Core.Path.{_≡_, sym, ap, _∙_, subst}
@@ -63,11 +63,11 @@ write-strips-requires c κs =
     let q : size ≡ tableEnd (a .mask) (a .n) + length (bodiesFrom f 0 (a .n)) = omega (arith, p, c .before .before .before .before .before .before .before .before .before .before .bodies-size .ensures .0) in
     let d = now (a .out) in
     let room : size ≤ length d = c .before .before .before .before .before .before .before .before .before .if2 .left in
-    let four : length (bigEndian (a .tag)) ≡ 4 = length-big-endian (a .tag) in
-    let also : length (bigEndian size) ≡ 4 = length-big-endian size in
-    let l1 : length (putAt d 0 (bigEndian (a .tag))) ≡ length d = put-length d 0 (bigEndian (a .tag)) (omega arith) in
-    let l2 : length (putAt (putAt d 0 (bigEndian (a .tag))) 4 (bigEndian size)) ≡ length (putAt d 0 (bigEndian (a .tag))) = put-length (putAt d 0 (bigEndian (a .tag))) 4 (bigEndian size) (omega arith) in
-    let two = c .before .before .before .put-be322 .ensures ∙ ap (λ (x : List ℕ). putAt x 4 (bigEndian size)) (c .before .before .before .before .before .before .before .put-be32 .ensures) in
+    let four : length (be32Bytes (a .tag)) ≡ 4 = length-big-endian (a .tag) in
+    let also : length (be32Bytes size) ≡ 4 = length-big-endian size in
+    let l1 : length (sets d 0 (be32Bytes (a .tag))) ≡ length d = length-sets d 0 (be32Bytes (a .tag)) in
+    let l2 : length (sets (sets d 0 (be32Bytes (a .tag))) 4 (be32Bytes size)) ≡ length (sets d 0 (be32Bytes (a .tag))) = length-sets (sets d 0 (be32Bytes (a .tag))) 4 (be32Bytes size) in
+    let two = c .before .before .before .put-be322 .ensures ∙ ap (λ (x : List ℕ). sets x 4 (be32Bytes size)) (c .before .before .before .before .before .before .before .put-be32 .ensures) in
     (search needs, subst (λ (x : List ℕ). tableEnd (a .mask) (a .n) + length (bodiesFrom f 0 (a .n)) ≤ length x) (sym two) (subst (λ (k : ℕ). tableEnd (a .mask) (a .n) + length (bodiesFrom f 0 (a .n)) ≤ k) (sym (l2 ∙ l1)) (subst (λ (k : ℕ). k ≤ length d) q room)))
 
 same-length : tie.Need-same-length
@@ -84,7 +84,7 @@ returns-3 c =
     let q : size ≡ tableEnd (a .mask) (a .n) + length (bodiesFrom f 0 (a .n)) = omega (arith, p, c .before .before .before .before .before .before .before .before .before .before .before .before .before .bodies-size .ensures .0) in
     let room : size ≤ length (now (a .out)) = c .before .before .before .before .before .before .before .before .before .before .before .before .if2 .left in
     let one = c .before .before .before .before .before .before .before .before .before .before .put-be32 .ensures in
-    let two = c .before .before .before .before .before .before .put-be322 .ensures ∙ ap (λ (d : List ℕ). putAt d 4 (bigEndian size)) one in
+    let two = c .before .before .before .before .before .before .put-be322 .ensures ∙ ap (λ (d : List ℕ). sets d 4 (be32Bytes size)) one in
     whole-block (a .tag) (a .mask) (a .n) (a .h) (now (a .src)) (now (a .out)) enough size q room _
     (block-done (a .tag) (a .mask) (a .n) f (now (a .out)) size q (omega arith) _ _ two (c .before .before .write-strips .ensures))
 

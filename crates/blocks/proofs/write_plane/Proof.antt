@@ -1,4 +1,5 @@
-use Rattle.blocks.proofs.CallLaws.{sizes, and-true, plane-refused, plane-written}
+use Rattle.number.proofs.BoolLaws.{both}
+use Rattle.blocks.proofs.CallLaws.{sizes, plane-refused, plane-written}
 use Rattle.blocks.specs.Call.{sizesAllowed}
 use denote.Ref.{now}
 use lib.Dec.{leb}
@@ -22,7 +23,7 @@ write-block-requires : tie.Need-write-block-requires
 write-block-requires c κs =
     let a = c .before .before .before .before .before .args in
     let t = ap (λ (b : Bool). b && (leb 1 (a .k) && leb (a .k) 4)) (sym (c .before .before .sizes-allowed .ensures)) ∙ c .before .if1 .taken in
-    let s = sizes (a .w) (a .h) (and-true (sizesAllowed (a .w) (a .h)) (leb 1 (a .k) && leb (a .k) 4) t .0) in
+    let s = sizes (a .w) (a .h) (both (sizesAllowed (a .w) (a .h)) (leb 1 (a .k) && leb (a .k) 4) t .0) in
     (s .one, s .high, omega (arith, s .wide), omega (arith, s .narrow))
 
 same-length : tie.Need-same-length

@@ -1,11 +1,10 @@
 use Rattle.blocks.proofs.PutLaws.{put-mid}
 use Rattle.blocks.proofs.FillLaws.{Filling, offsets-few, filling-start, body-room, offset-room, filling-more, filled}
-use Rattle.blocks.proofs.PutLaws.{put-length}
 use Rattle.blocks.specs.Block.{bodyFor, offsetBytes}
-use Rattle.blocks.specs.Put.{putAt}
 use borrow.Author.Needs.{needs}
 use denote.Ref.{now}
 use lib.ListN.{length, length-drop, length-take}
+use lib.Seq.{sets, length-sets}
 use Prim.Native.Nat.{ℕ, _+_, _-_, _*_}
 use mathlib.Core.List.{List}
 use mathlib.Core.Path.{sym, ap, _∙_, subst}
@@ -61,9 +60,9 @@ put-offset-requires c κs =
     let l = c .before .before .before .before .before .before .before .loop in
     let f : ℕ → List ℕ = bodyFor (a .mask) (a .n) (a .h) (now (a .src)) in
     let r = body-room _ _ _ _ _ _ _ _ (l .inv) (c .before .before .before .before .before .before .loop-test .taken) in
-    let e = put-mid (l .out) (l .at) (f (l .k)) _ (omega (arith, r)) (c .before .before .before .before .write-body .ensures .1) in
+    let e = put-mid (l .out) (l .at) (f (l .k)) (omega (arith, r)) _ (c .before .before .before .before .write-body .ensures .1) in
     let k = offset-room _ _ _ _ _ _ _ _ (l .inv) (c .before .before .before .before .before .before .loop-test .taken) in
-    omega (arith, k, l .inv .far, r, ap length e ∙ put-length (l .out) (l .at) (f (l .k)) (omega (arith, r)))
+    omega (arith, k, l .inv .far, r, ap length e ∙ length-sets (l .out) (l .at) (f (l .k)))
 
 add-at-2 : tie.Need-add-at-2 Inv-loop μ-loop
 add-at-2 c =
@@ -94,9 +93,9 @@ loop-again c =
     let l = c .before .before .before .before .before .before .before .before .before .before .loop in
     let f : ℕ → List ℕ = bodyFor (a .mask) (a .n) (a .h) (now (a .src)) in
     let r = body-room _ _ _ _ _ _ _ _ (l .inv) (c .before .before .before .before .before .before .before .before .before .loop-test .taken) in
-    let e = put-mid (l .out) (l .at) (f (l .k)) _ (omega (arith, r)) (c .before .before .before .before .before .before .before .write-body .ensures .1) in
+    let e = put-mid (l .out) (l .at) (f (l .k)) (omega (arith, r)) _ (c .before .before .before .before .before .before .before .write-body .ensures .1) in
     let v = c .before .before .before .offset-of .result in
-    let o = c .before .before .put-offset .ensures ∙ ap (λ (q : List ℕ). putAt q (l .entry) (offsetBytes (a .mask) v)) e in
+    let o = c .before .before .put-offset .ensures ∙ ap (λ (q : List ℕ). sets q (l .entry) (offsetBytes (a .mask) v)) e in
     rw (o, c .before .before .before .before .before .before .before .write-body .ensures .0, c .before .before .before .before .before .before .before .before .before .before .before .offset-size .ensures .0)
     (filling-more (a .mask) (a .n) f (now (a .out)) (l .out) (l .k) (l .at) (l .entry) (l .inv) (c .before .before .before .before .before .before .before .before .before .loop-test .taken) v (c .before .before .before .offset-of .ensures (f (l .k)) (c .before .before .before .before .before .before .before .write-body .ensures .0)))
 

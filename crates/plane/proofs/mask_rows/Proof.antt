@@ -1,8 +1,8 @@
 use Rattle.plane.proofs.MaskLaws.{rows-as, painted-on, rows-all}
 use Rattle.plane.specs.Mask.{literals, rowsOf}
-use Rattle.strip.proofs.StripLaws.{glue-none}
-use Rattle.strip.proofs.FillLaws.{drop-more}
-use Rattle.strip.specs.Strip.{glue}
+use Rattle.strip.proofs.StripLaws.{prepend-none}
+use Rattle.number.proofs.BufferLaws.{drop-more}
+use Rattle.strip.specs.Strip.{prepend}
 use denote.Ref.{now}
 use lib.ListN.{length, getD, take, drop, replicate}
 use borrow.Author.Needs.{needs}
@@ -17,7 +17,7 @@ use Rattle.plane.proofs.mask_rows.Tie as tie
 abbrev Inv-loop : tie.InvT-loop
 Inv-loop body h out₀ at₀ i₀ out at i =
     (i ≤ h) × (at ≤ length body) × (length out ≡ length out₀) × (drop i out ≡ drop i out₀)
-    × (rowsOf body h (literals 0) ≡ glue (take i out) (rowsOf (drop at body) (h - i) (literals 0)))
+    × (rowsOf body h (literals 0) ≡ prepend (take i out) (rowsOf (drop at body) (h - i) (literals 0)))
 
 abbrev μ-loop : tie.MeasureT-loop
 μ-loop body h out₀ at₀ i₀ out at i = (h - i) + (length body - at)
@@ -25,7 +25,7 @@ abbrev μ-loop : tie.MeasureT-loop
 loop-holds : tie.Need-loop-holds Inv-loop μ-loop
 loop-holds c =
     let a = c .before .before .args in
-    (zero-le, zero-le, refl, refl, glue-none _ ∙ ap (λ (n : ℕ). glue [] (rowsOf (now (a .body)) n (literals 0))) (sym (sub-zero (a .h))))
+    (zero-le, zero-le, refl, refl, prepend-none _ ∙ ap (λ (n : ℕ). prepend [] (rowsOf (now (a .body)) n (literals 0))) (sym (sub-zero (a .h))))
 
 sub-rows-at : tie.Need-sub-rows-at Inv-loop μ-loop
 sub-rows-at c = omega arith
@@ -137,7 +137,7 @@ returns : tie.Need-returns Inv-loop μ-loop
 returns c =
     let l = c .before .before .before .before .before .loop in
     let e = rows-as (now (c .before .before .before .before .before .before .before .before .args .body)) (l .at) (c .before .before .before .before .before .before .before .before .args .h - l .i) (c .before .number .given .1) (c .before .before .before .rows-at .ensures) in
-    l .inv .4 ∙ ap (glue (take (l .i) (l .out))) e
+    l .inv .4 ∙ ap (prepend (take (l .i) (l .out))) e
 
 same-length-2 : tie.Need-same-length-2 Inv-loop μ-loop
 same-length-2 c = c .before .loop .inv .2

@@ -1,7 +1,7 @@
 use Rattle.table.proofs.TestLaws.{tested-passes, tested-stops}
 use Rattle.table.specs.Test.{stripTest}
 use Rattle.table.specs.Body.{stripAt}
-use Rattle.decode.specs.Tally.{testOf}
+use Rattle.decode.specs.Outcome.{testOf}
 use Rattle.strip.specs.Picture.{stripOf}
 use denote.Ref.{now}
 use mathlib.Core.Path.{sym, ap, _∙_}

@@ -1,6 +1,6 @@
 use native.Mathlib.Nat.{le-refl}
 use Prim.Native.Nat.{_+_}
-use Rattle.writer.proofs.BitWriterLaws.{finish-none, finish-one, hand-byte}
+use Rattle.writer.proofs.BitWriterLaws.{finish-none, finish-one, hold-byte}
 use lib.ListN.{length-set}
 use lib.Seq.{drop-set-lt}
 use denote.Ref.{now}
@@ -14,7 +14,7 @@ returns : tie.Need-returns
 returns c = (finish-none _ _ (c .if1 .taken), refl, le-refl _, omega arith)
 
 cast-out : tie.Need-cast-out
-cast-out c = record { fits = hand-byte (c .before .before .args .writer) (c .before .before .pre .0) (c .before .before .pre .1) }
+cast-out c = record { fits = hold-byte (c .before .before .args .writer) (c .before .before .pre .0) (c .before .before .pre .1) }
 
 slice-write-out : tie.Need-slice-write-out
 slice-write-out c = search needs
@@ -29,9 +29,9 @@ returns-2 : tie.Need-returns-2
 returns-2 c =
     let a = c .before .before .args in (
       finish-one (now (a .out)) (a .writer) (c .before .before .pre .0) (c .before .if1 .left) (c .before .before .pre .1) (omega arith),
-      drop-set-lt (a .writer .at + 1) (now (a .out)) (a .writer .at) (a .writer .hand) (omega arith),
+      drop-set-lt (a .writer .at + 1) (now (a .out)) (a .writer .at) (a .writer .hold) (omega arith),
       omega arith,
-      omega (arith, length-set (now (a .out)) (a .writer .at) (a .writer .hand)),
+      omega (arith, length-set (now (a .out)) (a .writer .at) (a .writer .hold)),
     )
 
 pub finish-spec : {M : Type 1} → statement M

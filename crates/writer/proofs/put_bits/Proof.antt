@@ -16,16 +16,16 @@ shl-t9 c = search needs
 add-t10 : tie.Need-add-t10
 add-t10 c =
     let a = c .before .before .args in
-    let s = join-shift (a .writer) (a .count) (a .bits) (c .before .before .pre .1) (c .before .before .pre .3) (c .before .before .pre .2) in
-    let l = join-low (a .writer) (a .count) (a .bits) (c .before .before .pre .0) (c .before .before .pre .2) in
-    let m : a .writer .have + a .count ≤ 17 = omega arith in
+    let s = join-shift (a .writer) (a .count) (a .value) (c .before .before .pre .1) (c .before .before .pre .3) (c .before .before .pre .2) in
+    let l = join-low (a .writer) (a .count) (a .value) (c .before .before .pre .0) (c .before .before .pre .2) in
+    let m : a .writer .bits + a .count ≤ 17 = omega arith in
     record { fits = omega (arith, s, l, pow-mono m) }
 
 flush-byte-requires : tie.Need-flush-byte-requires
 flush-byte-requires c κs =
     let a = c .before .before .before .args in
-    let s = join-shift (a .writer) (a .count) (a .bits) (c .before .before .before .pre .1) (c .before .before .before .pre .3) (c .before .before .before .pre .2) in
-    (rw s (join-low (a .writer) (a .count) (a .bits) (c .before .before .before .pre .0) (c .before .before .before .pre .2)), omega arith, omega arith)
+    let s = join-shift (a .writer) (a .count) (a .value) (c .before .before .before .pre .1) (c .before .before .before .pre .3) (c .before .before .before .pre .2) in
+    (rw s (join-low (a .writer) (a .count) (a .value) (c .before .before .before .pre .0) (c .before .before .before .pre .2)), omega arith, omega arith)
 
 flush-byte-requires-2 : tie.Need-flush-byte-requires-2
 flush-byte-requires-2 c κs = search needs
@@ -36,7 +36,7 @@ same-length c = search needs
 returns : tie.Need-returns
 returns c =
     let a = c .before .before .before .before .before .before .before .before .before .before .args in
-    let s = join-shift (a .writer) (a .count) (a .bits) (c .before .before .before .before .before .before .before .before .before .before .pre .1) (c .before .before .before .before .before .before .before .before .before .before .pre .3) (c .before .before .before .before .before .before .before .before .before .before .pre .2) in
+    let s = join-shift (a .writer) (a .count) (a .value) (c .before .before .before .before .before .before .before .before .before .before .pre .1) (c .before .before .before .before .before .before .before .before .before .before .pre .3) (c .before .before .before .before .before .before .before .before .before .before .pre .2) in
     let one = c .before .before .before .before .before .before .flush-byte .ensures in
     let two = c .before .before .flush-byte2 .ensures in
     (bits-put _ _ _ _ _ _ _ _ (c .before .before .before .before .before .before .before .before .before .before .pre .0) (rw s at (one .0)) (two .0), omega arith, omega arith)

@@ -1,9 +1,9 @@
 use Rattle.writer.proofs.RowOpLaws.{next-run, next-literal, run-written, literal-written}
 use denote.Ref.{now}
-use lib.Seq.{length-take-le, length-paste}
-use lib.ListN.{length, set, drop, take, length-set, length-drop}
+use lib.Seq.{length-take-le}
+use lib.ListN.{length, drop, take, length-set, length-drop}
 use Prim.Native.Nat.{_+_}
-use mathlib.Core.Path.{_≡_, ap, _∙_}
+use mathlib.Core.Path.{_≡_, _∙_}
 use native.Mathlib.Omega.{arith}
 use borrow.Author.Needs.{needs}
 use Rattle.writer.proofs.write_op.Statement.{statement}
@@ -113,9 +113,7 @@ same-length-2 : tie.Need-same-length-2
 same-length-2 c =
     let a = c .before .before .before .before .before .before .before .before .before .args in
     let m = c .before .before .before .before .literal-length .result in
-    let k = next-literal (now (a .rows)) (now (a .out)) (a .y) (a .at) (c .before .before .before .before .before .before .before .before .before .pre .0) (c .before .before .before .before .before .before .before .before .before .pre .1) (c .before .before .before .before .before .before .run-length .result) m (c .before .before .before .before .before .before .run-length .ensures) (c .before .before .before .before .before .if1 .left) (c .before .before .before .before .literal-length .ensures) in
-    let t : length (take m (drop (a .y) (now (a .rows)))) ≡ m = length-take-le m (drop (a .y) (now (a .rows))) (omega (arith, k .inside, length-drop (a .y) (now (a .rows)))) in
-    ap length (c .before .before .copy .ensures) ∙ length-paste (set (now (a .out)) (a .at) m) (a .at + 1) (drop (a .y) (now (a .rows))) m (omega (arith, k .room, length-set (now (a .out)) (a .at) m)) (omega (arith, k .inside, length-drop (a .y) (now (a .rows)))) ∙ length-set (now (a .out)) (a .at) m
+    c .before .before .copy .kept .1 .1 .1 .0 ∙ length-set (now (a .out)) (a .at) m
 
 returns-2 : tie.Need-returns-2
 returns-2 c =
@@ -123,7 +121,7 @@ returns-2 c =
     let m = c .before .before .before .before .literal-length .result in
     let k = next-literal (now (a .rows)) (now (a .out)) (a .y) (a .at) (c .before .before .before .before .before .before .before .before .before .pre .0) (c .before .before .before .before .before .before .before .before .before .pre .1) (c .before .before .before .before .before .before .run-length .result) m (c .before .before .before .before .before .before .run-length .ensures) (c .before .before .before .before .before .if1 .left) (c .before .before .before .before .literal-length .ensures) in
     let t : length (take m (drop (a .y) (now (a .rows)))) ≡ m = length-take-le m (drop (a .y) (now (a .rows))) (omega (arith, k .inside, length-drop (a .y) (now (a .rows)))) in
-    literal-written (now (a .rows)) (now (a .out)) (a .y) (a .at) (c .before .before .before .before .before .before .before .before .before .pre .0) (c .before .before .before .before .before .before .before .before .before .pre .1) m _ k (c .before .before .copy .ensures)
+    literal-written (now (a .rows)) (now (a .out)) (a .y) (a .at) (c .before .before .before .before .before .before .before .before .before .pre .0) (c .before .before .before .before .before .before .before .before .before .pre .1) m _ k (c .before .before .copy .ensures .0) (c .before .before .copy .ensures .1) (c .before .before .copy .kept .1 .1 .1 .0)
 
 pub write-op-spec : {M : Type 1} → statement M
 write-op-spec =

@@ -62,7 +62,7 @@ loop2-again : tie.Need-loop2-again Inv-loop2 μ-loop2 Inv-loop μ-loop
 unfolding stampBox
 loop2-again c =
     let inv = c .before .before .before .before .before .before .loop2 .inv in (
-      row-write _ _ _ _ _ _ _ (omega arith) (inv .0) _ _ (omega arith) (c .ink .ensures),
+      row-write _ _ _ _ _ _ _ (omega arith) (inv .0) _ _ (omega arith) (c .blend .ensures),
       omega arith,
       simp length-set (inv .2),
       inv .3,

@@ -1,6 +1,7 @@
 -- `actor::sizes::buffers_fit` meets its contract. Assumes nothing.
 use Rattle.actor.specs.Sizes.{sizesFit, buffersFit}
-use Rattle.actor.proofs.SizeLaws.{both, ranges, picture-ranges}
+use Rattle.number.proofs.BoolLaws.{both}
+use Rattle.actor.proofs.SizeLaws.{ranges, picture-ranges}
 use native.Mathlib.Omega.{arith}
 use native.Mathlib.Nat.{mul-le-mul}
 use Rattle.actor.proofs.sizes.buffers_fit.Statement.{statement}

@@ -12,16 +12,16 @@ add-count : tie.Need-add-count
 add-count c = search needs
 
 take-requires : tie.Need-take-requires
-take-requires c κs = (omega (arith, zeros-few (c .before .args .self .hand), c .before .pre .0), c .before .pre .1)
+take-requires c κs = (omega (arith, zeros-few (c .before .args .self .hold), c .before .pre .0), c .before .pre .1)
 
 returns : tie.Need-returns
 returns c =
     let self = c .before .before .before .args .self in
     let enough = c .before .before .before .pre .0 in
     let taken = c .before .take in (
-      zeros-few (self .hand),
-      hands-zeros _ _ self (taken .result .next) (taken .ensures) (zeros-are (self .hand)),
-      λ few. hands-one _ _ self (taken .result .next) (taken .ensures) (omega (arith, few, enough)) (zeros-end (self .hand) few),
+      zeros-few (self .hold),
+      hands-zeros _ _ self (taken .result .next) (taken .ensures) (zeros-are (self .hold)),
+      λ few. hands-one _ _ self (taken .result .next) (taken .ensures) (omega (arith, few, enough)) (zeros-end (self .hold) few),
     )
 
 pub zeros-spec : {M : Type 1} → statement M

@@ -13,7 +13,7 @@ use Rattle.climb.proofs.chain.is_open.Reads as is-open
 use Rattle.climb.proofs.chain.is_open.Kinds as is-open-kinds
 use Rattle.climb.proofs.chain.+is_open.Lts-is_open as is-open-lts
 use Rattle.climb.proofs.chain.lets.Reads as lets-reads
-use Rattle.replay.proofs.tables.wide.Reads as wide-reads
+use Rattle.number.proofs.wide_u32.Reads as wide-u32-reads
 use Rattle.climb.proofs.chain.+is_open.{statement}
 use Rattle.climb.proofs.chain.+is_open.Tie.{close}
 
@@ -28,8 +28,8 @@ is-open-below t = and 2 is-open-kinds.ps (falls 2 is-open-kinds.ps _<_ μ-is-ope
 
 -- src/chain.rt:25:9
 is-open-returns : (t : ℕ) → is-open-lts.Need-returns (
-  wide-reads.Asked,
-  wide-reads.Learnt,
+  wide-u32-reads.Asked,
+  wide-u32-reads.Learnt,
   lets-reads.Asked,
   lets-reads.Learnt,
   is-open-below t,
@@ -38,86 +38,86 @@ is-open-returns : (t : ℕ) → is-open-lts.Need-returns (
 is-open-returns t c = climb-out _ _ _ _ (c .if1 .taken)
 
 -- src/chain.rt:27:29
-is-open-mul-wide : (t : ℕ) → is-open-lts.Need-mul-wide (
-  wide-reads.Asked,
-  wide-reads.Learnt,
+is-open-mul-wide-u32 : (t : ℕ) → is-open-lts.Need-mul-wide-u32 (
+  wide-u32-reads.Asked,
+  wide-u32-reads.Learnt,
   lets-reads.Asked,
   lets-reads.Learnt,
   is-open-below t,
   is-open.Post,
 ) (is-open-at t) is-open.Post
-is-open-mul-wide t c = search needs
+is-open-mul-wide-u32 t c = search needs
 
 -- src/chain.rt:27:29
-is-open-add-wide : (t : ℕ) → is-open-lts.Need-add-wide (
-  wide-reads.Asked,
-  wide-reads.Learnt,
+is-open-add-wide-u32 : (t : ℕ) → is-open-lts.Need-add-wide-u32 (
+  wide-u32-reads.Asked,
+  wide-u32-reads.Learnt,
   lets-reads.Asked,
   lets-reads.Learnt,
   is-open-below t,
   is-open.Post,
 ) (is-open-at t) is-open.Post
-is-open-add-wide t c = search needs
+is-open-add-wide-u32 t c = search needs
 
 -- src/chain.rt:27:23
-is-open-mul-wide-2 : (t : ℕ) → is-open-lts.Need-mul-wide-2 (
-  wide-reads.Asked,
-  wide-reads.Learnt,
+is-open-mul-wide-u32-2 : (t : ℕ) → is-open-lts.Need-mul-wide-u32-2 (
+  wide-u32-reads.Asked,
+  wide-u32-reads.Learnt,
   lets-reads.Asked,
   lets-reads.Learnt,
   is-open-below t,
   is-open.Post,
 ) (is-open-at t) is-open.Post
-is-open-mul-wide-2 t c = search needs
+is-open-mul-wide-u32-2 t c = search needs
 
 -- src/chain.rt:27:23
-is-open-shared-slice-read-wide : (t : ℕ) → is-open-lts.Need-shared-slice-read-wide (
-  wide-reads.Asked,
-  wide-reads.Learnt,
+is-open-shared-slice-read-wide-u32 : (t : ℕ) → is-open-lts.Need-shared-slice-read-wide-u32 (
+  wide-u32-reads.Asked,
+  wide-u32-reads.Learnt,
   lets-reads.Asked,
   lets-reads.Learnt,
   is-open-below t,
   is-open.Post,
 ) (is-open-at t) is-open.Post
-is-open-shared-slice-read-wide t c = search needs
+is-open-shared-slice-read-wide-u32 t c = search needs
 
 -- src/chain.rt:27:9
-is-open-wide-requires : (t : ℕ) → is-open-lts.Need-wide-requires (
-  wide-reads.Asked,
-  wide-reads.Learnt,
+is-open-wide-u32-requires : (t : ℕ) → is-open-lts.Need-wide-u32-requires (
+  wide-u32-reads.Asked,
+  wide-u32-reads.Learnt,
   lets-reads.Asked,
   lets-reads.Learnt,
   is-open-below t,
   is-open.Post,
 ) (is-open-at t) is-open.Post
-is-open-wide-requires t c κs = search needs
+is-open-wide-u32-requires t c κs = search needs
 
 -- src/chain.rt:29:9
 is-open-returns-2 : (t : ℕ) → is-open-lts.Need-returns-2 (
-  wide-reads.Asked,
-  wide-reads.Learnt,
+  wide-u32-reads.Asked,
+  wide-u32-reads.Learnt,
   lets-reads.Asked,
   lets-reads.Learnt,
   is-open-below t,
   is-open.Post,
 ) (is-open-at t) is-open.Post
-is-open-returns-2 t c = climb-top _ _ _ _ (c .before .before .before .if1 .left) (sym (c .before .wide .ensures .0) ∙ c .if2 .taken)
+is-open-returns-2 t c = climb-top _ _ _ _ (c .before .before .before .if1 .left) (sym (c .before .wide-u32 .ensures .0) ∙ c .if2 .taken)
 
 -- src/chain.rt:32:9
 is-open-returns-3 : (t : ℕ) → is-open-lts.Need-returns-3 (
-  wide-reads.Asked,
-  wide-reads.Learnt,
+  wide-u32-reads.Asked,
+  wide-u32-reads.Learnt,
   lets-reads.Asked,
   lets-reads.Learnt,
   is-open-below t,
   is-open.Post,
 ) (is-open-at t) is-open.Post
-is-open-returns-3 t c = climb-gone _ _ _ _ (c .before .before .before .before .if1 .left) (λ e. c .before .if2 .left (c .before .before .wide .ensures .0 ∙ e)) (omega (arith, c .before .before .wide .ensures .0))
+is-open-returns-3 t c = climb-gone _ _ _ _ (c .before .before .before .before .if1 .left) (λ e. c .before .if2 .left (c .before .before .wide-u32 .ensures .0 ∙ e)) (omega (arith, c .before .before .wide-u32 .ensures .0))
 
 -- src/chain.rt:34:19
 is-open-mul-lets : (t : ℕ) → is-open-lts.Need-mul-lets (
-  wide-reads.Asked,
-  wide-reads.Learnt,
+  wide-u32-reads.Asked,
+  wide-u32-reads.Learnt,
   lets-reads.Asked,
   lets-reads.Learnt,
   is-open-below t,
@@ -127,8 +127,8 @@ is-open-mul-lets t c = search needs
 
 -- src/chain.rt:34:19
 is-open-add-lets : (t : ℕ) → is-open-lts.Need-add-lets (
-  wide-reads.Asked,
-  wide-reads.Learnt,
+  wide-u32-reads.Asked,
+  wide-u32-reads.Learnt,
   lets-reads.Asked,
   lets-reads.Learnt,
   is-open-below t,
@@ -138,8 +138,8 @@ is-open-add-lets t c = search needs
 
 -- src/chain.rt:34:13
 is-open-mul-lets-2 : (t : ℕ) → is-open-lts.Need-mul-lets-2 (
-  wide-reads.Asked,
-  wide-reads.Learnt,
+  wide-u32-reads.Asked,
+  wide-u32-reads.Learnt,
   lets-reads.Asked,
   lets-reads.Learnt,
   is-open-below t,
@@ -149,8 +149,8 @@ is-open-mul-lets-2 t c = search needs
 
 -- src/chain.rt:34:13
 is-open-shared-slice-read-lets : (t : ℕ) → is-open-lts.Need-shared-slice-read-lets (
-  wide-reads.Asked,
-  wide-reads.Learnt,
+  wide-u32-reads.Asked,
+  wide-u32-reads.Learnt,
   lets-reads.Asked,
   lets-reads.Learnt,
   is-open-below t,
@@ -160,8 +160,8 @@ is-open-shared-slice-read-lets t c = search needs
 
 -- src/chain.rt:34:31
 is-open-mul-lets-3 : (t : ℕ) → is-open-lts.Need-mul-lets-3 (
-  wide-reads.Asked,
-  wide-reads.Learnt,
+  wide-u32-reads.Asked,
+  wide-u32-reads.Learnt,
   lets-reads.Asked,
   lets-reads.Learnt,
   is-open-below t,
@@ -171,8 +171,8 @@ is-open-mul-lets-3 t c = search needs
 
 -- src/chain.rt:34:31
 is-open-shared-slice-read-lets-2 : (t : ℕ) → is-open-lts.Need-shared-slice-read-lets-2 (
-  wide-reads.Asked,
-  wide-reads.Learnt,
+  wide-u32-reads.Asked,
+  wide-u32-reads.Learnt,
   lets-reads.Asked,
   lets-reads.Learnt,
   is-open-below t,
@@ -182,8 +182,8 @@ is-open-shared-slice-read-lets-2 t c = search needs
 
 -- src/chain.rt:34:8
 is-open-lets-requires : (t : ℕ) → is-open-lts.Need-lets-requires (
-  wide-reads.Asked,
-  wide-reads.Learnt,
+  wide-u32-reads.Asked,
+  wide-u32-reads.Learnt,
   lets-reads.Asked,
   lets-reads.Learnt,
   is-open-below t,
@@ -193,8 +193,8 @@ is-open-lets-requires t c κs = search needs
 
 -- src/chain.rt:35:46
 is-open-sub-is-open : (t : ℕ) → is-open-lts.Need-sub-is-open (
-  wide-reads.Asked,
-  wide-reads.Learnt,
+  wide-u32-reads.Asked,
+  wide-u32-reads.Learnt,
   lets-reads.Asked,
   lets-reads.Learnt,
   is-open-below t,
@@ -204,8 +204,8 @@ is-open-sub-is-open t c = search needs
 
 -- src/chain.rt:35:9
 is-open-is-open-requires : (t : ℕ) → is-open-lts.Need-is-open-requires (
-  wide-reads.Asked,
-  wide-reads.Learnt,
+  wide-u32-reads.Asked,
+  wide-u32-reads.Learnt,
   lets-reads.Asked,
   lets-reads.Learnt,
   is-open-below t,
@@ -215,8 +215,8 @@ is-open-is-open-requires t c κs = search needs
 
 -- src/chain.rt:35:9
 is-open-returns-4 : (t : ℕ) → is-open-lts.Need-returns-4 (
-  wide-reads.Asked,
-  wide-reads.Learnt,
+  wide-u32-reads.Asked,
+  wide-u32-reads.Learnt,
   lets-reads.Asked,
   lets-reads.Learnt,
   is-open-below t,
@@ -226,15 +226,15 @@ is-open-returns-4 t c =
     let a = c .before .before .before .before .before .before .before .before .before .before .before .before .args in
     let obs = boxesOf (now (a .boxes)) (a .count) in
     let state = stateIn (now (a .states)) in
-    let w = c .before .before .before .before .before .before .before .wide .ensures .0 in
+    let w = c .before .before .before .before .before .before .before .wide-u32 .ensures .0 in
     c .is-open .ensures ∙ ap (isOpen obs state (a .links - 1)) w
     ∙ climb-on obs state (a .links) (a .o) (c .before .before .before .before .before .before .before .before .before .if1 .left) (λ e. c .before .before .before .before .before .before .if2 .left (w ∙ e)) (omega (arith, w)) _
     (c .before .before .lets .ensures ∙ ap (λ (k : ℕ). lets (obs .flags (a .o)) (state k)) w) (c .before .if4 .taken)
 
 -- src/chain.rt:20:1
 is-open-returns-5 : (t : ℕ) → is-open-lts.Need-returns-5 (
-  wide-reads.Asked,
-  wide-reads.Learnt,
+  wide-u32-reads.Asked,
+  wide-u32-reads.Learnt,
   lets-reads.Asked,
   lets-reads.Learnt,
   is-open-below t,
@@ -244,14 +244,14 @@ is-open-returns-5 t c =
     let a = c .before .before .before .before .before .before .before .before .before .before .before .args in
     let obs = boxesOf (now (a .boxes)) (a .count) in
     let state = stateIn (now (a .states)) in
-    let w = c .before .before .before .before .before .before .wide .ensures .0 in
+    let w = c .before .before .before .before .before .before .wide-u32 .ensures .0 in
     climb-shut obs state (a .links) (a .o) (c .before .before .before .before .before .before .before .before .if1 .left) (λ e. c .before .before .before .before .before .if2 .left (w ∙ e)) (omega (arith, w)) _
     (c .before .lets .ensures ∙ ap (λ (k : ℕ). lets (obs .flags (a .o)) (state k)) w) (c .if4 .left)
 
 pub +is-open-spec : {M : Type 1} → statement M
 +is-open-spec = close μ-is-open λ t. is-open-lts.spec (
-  wide-reads.Asked,
-  wide-reads.Learnt,
+  wide-u32-reads.Asked,
+  wide-u32-reads.Learnt,
   lets-reads.Asked,
   lets-reads.Learnt,
   is-open-below t,
@@ -260,11 +260,11 @@ pub +is-open-spec : {M : Type 1} → statement M
     (is-open-at t)
     is-open.Post
     (is-open-returns t)
-    (is-open-mul-wide t)
-    (is-open-add-wide t)
-    (is-open-mul-wide-2 t)
-    (is-open-shared-slice-read-wide t)
-    (is-open-wide-requires t)
+    (is-open-mul-wide-u32 t)
+    (is-open-add-wide-u32 t)
+    (is-open-mul-wide-u32-2 t)
+    (is-open-shared-slice-read-wide-u32 t)
+    (is-open-wide-u32-requires t)
     (is-open-returns-2 t)
     (is-open-returns-3 t)
     (is-open-mul-lets t)

@@ -1,6 +1,6 @@
 use Rattle.decode.proofs.PaintLaws.{advances-kept, advances-op, advances-on, whole-in-ten, kept-some}
 use Rattle.decode.specs.Paint.{Advances}
-use Rattle.strip.proofs.FillLaws.{fill-part}
+use Rattle.number.proofs.BufferLaws.{fill-part}
 use Rattle.strip.specs.Place.{runAhead}
 use Rattle.strip.specs.declared.State.{State}
 use Rattle.bits.specs.Reader.{One}
@@ -17,7 +17,7 @@ use Rattle.decode.proofs.painting.group.Tie as tie
 use Rattle.decode.proofs.painting.group.Reads as reads
 use Rattle.decode.proofs.painting.group.Lts as lts
 use Rattle.bits.proofs.Cursor.zeros.Reads as zeros-reads
-use Rattle.strip.proofs.filling.fill.Reads as fill-reads
+use Rattle.number.proofs.buffer.fill.Reads as fill-reads
 use Rattle.strip.proofs.operations.kept.Reads as kept-reads
 use Rattle.strip.proofs.operations.op.Reads as op-reads
 use Rattle.strip.proofs.operations.run_at.Reads as run-at-reads
@@ -102,19 +102,19 @@ returns-3 c =
     let mid = c .before .before .before .before .before .kept .result in
     let same = c .before .before .before .before .before .kept .ensures in
     let at = ap (λ (q : State). q .i) same in
-    let have = ap (λ (q : State). q .cur .have) same in
-    let bits : (s : List ℕ) → rest s (mid .cur) ≡ rest s (zeros .result .next) = λ s. ap (λ (q : State). rest s (q .cur)) same in
-    let one : (s : List ℕ) → One (rest s (mid .cur)) = λ s. subst One (sym (bits s)) (zeros .ensures .2 (omega (arith, few)) s) in
+    let bits = ap (λ (q : State). q .cur .bits) same in
+    let left : (s : List ℕ) → rest s (mid .cur) ≡ rest s (zeros .result .next) = λ s. ap (λ (q : State). rest s (q .cur)) same in
+    let one : (s : List ℕ) → One (rest s (mid .cur)) = λ s. subst One (sym (left s)) (zeros .ensures .2 (omega (arith, few)) s) in
     let no-run : (s : List ℕ) → runAhead (a .second) (rest s (mid .cur)) ≡ false =
-    λ s. ap (runAhead (a .second)) (bits s) ∙ sym (c .before .before .run-at .ensures s) ∙ c .before .if2 .left in
+    λ s. ap (runAhead (a .second)) (left s) ∙ sym (c .before .before .run-at .ensures s) ∙ c .before .if2 .left in
     let f : Advances (a .second) (a .w) 8 st (now (a .out)) mid (painted .last .0) =
     subst (λ (q : State). Advances (a .second) (a .w) 8 st (now (a .out)) q (painted .last .0)) (sym same)
     (advances-kept (a .second) (a .w) 8 k st (zeros .result .next) (now (a .out)) (painted .last .0) (zeros .ensures .1) (zeros .ensures .0)
     (fill-part (now (a .out)) (painted .last .0) (st .i) 8 k (st .colour) (omega (arith, c .before .before .before .before .before .before .before .before .before .before .before .before .before .before .pre .4)) (zeros .ensures .0) (painted .ensures .0))) in
     let o = c .op .ensures in
     let g = advances-op (a .second) (a .w) mid (c .op .result) (painted .last .0) o one no-run (omega (arith, at, few, c .before .before .before .before .before .before .before .before .before .before .before .before .before .before .pre .4, painted .kept .0)) in (
-      omega (arith, have, few, o .few, zeros .ensures .1 .fewer),
-      omega (arith, have, o .fewer, zeros .ensures .1 .fewer, c .before .before .before .before .before .before .before .before .before .before .before .before .before .before .pre .2),
+      omega (arith, bits, few, o .few, zeros .ensures .1 .fewer),
+      omega (arith, bits, o .fewer, zeros .ensures .1 .fewer, c .before .before .before .before .before .before .before .before .before .before .before .before .before .before .pre .2),
       (λ s none. omega (arith, at, o .on)),
       advances-on (a .second) (a .w) 8 1 9 st mid (c .op .result) (now (a .out)) (painted .last .0) _ (omega arith) f g,
     )

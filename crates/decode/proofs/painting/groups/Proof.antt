@@ -11,7 +11,7 @@ use Rattle.decode.proofs.painting.groups.Reads as reads
 use Rattle.decode.proofs.painting.groups.Lts as lts
 use Rattle.bits.proofs.Cursor.take.Reads as take-reads
 use Rattle.decode.proofs.painting.group.Reads as group-reads
-use Rattle.strip.proofs.filling.fill.Reads as fill-reads
+use Rattle.number.proofs.buffer.fill.Reads as fill-reads
 use Rattle.strip.proofs.operations.kept.Reads as kept-reads
 
 take-requires : tie.Need-take-requires

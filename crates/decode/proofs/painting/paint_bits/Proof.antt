@@ -1,6 +1,6 @@
 use Rattle.decode.proofs.PaintLaws.{paint-start, paint-end, paint-no, turned-as}
 use Rattle.decode.specs.Paint.{Painted}
-use Rattle.strip.specs.Strip.{decode, glue}
+use Rattle.strip.specs.Strip.{decode, prepend}
 use Rattle.bits.specs.Bits.{bitsOf, Held}
 use lib.ListN.{length, getD, drop, set, take, length-set}
 use denote.Ref.{now}
@@ -45,7 +45,7 @@ loop-holds c =
       refl,
       e .held s (c .before .before .before .before .pre .3),
       paint-start (a .second) (a .w) (a .total) first (bitsOf (drop 2 s)) (now (a .out)) (c .before .before .before .before .pre .1) (omega (arith, c .before .before .before .before .pre .1, c .before .before .before .before .pre .4))
-          ∙ ap (λ (l : List Bool). glue (take 1 (set (now (a .out)) 0 first)) (decode (a .second) (a .w) (a .total - 1) 0 first 1 l)) (sym (e .all s)),
+          ∙ ap (λ (l : List Bool). prepend (take 1 (set (now (a .out)) 0 first)) (decode (a .second) (a .w) (a .total - 1) 0 first 1 l)) (sym (e .all s)),
     )
 
 turn-requires : tie.Need-turn-requires Inv-loop μ-loop

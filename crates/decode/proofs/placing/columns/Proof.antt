@@ -6,7 +6,7 @@ use native.Mathlib.Omega.{arith}
 use lib.ListN.{length, take, drop}
 use denote.Ref.{now}
 use Rattle.strip.specs.Picture.{upTo}
-use Rattle.strip.proofs.FillLaws.{drop-more}
+use Rattle.number.proofs.BufferLaws.{drop-more}
 use Rattle.strip.proofs.PictureLaws.{pixelAt, placed-over}
 use Rattle.decode.proofs.placing.columns.Statement.{statement}
 use Rattle.decode.proofs.placing.columns.Tie as tie

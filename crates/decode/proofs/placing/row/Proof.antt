@@ -7,7 +7,7 @@ use lib.ListN.{length, getD, take, drop, length-set}
 use denote.Ref.{now}
 use Rattle.strip.specs.Picture.{sourceOf, upTo}
 use Rattle.strip.proofs.PictureLaws.{source-column, column-below, next-column, pixelAt, upTo-store}
-use Rattle.strip.proofs.StripLaws.{drop-store}
+use Rattle.number.proofs.BufferLaws.{drop-store}
 use Rattle.decode.proofs.placing.row.Statement.{statement}
 use Rattle.decode.proofs.placing.row.Tie as tie
 

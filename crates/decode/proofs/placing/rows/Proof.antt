@@ -1,74 +1,32 @@
-use mathlib.Core.Path.{_≡_, refl, _∙_}
+use mathlib.Core.Path.{_≡_, _∙_}
 use mathlib.Core.Bool.{false}
-use Prim.Native.Nat.{_-_, _*_, _≤_, _<_, zero-le}
-use native.Mathlib.Nat.{le-antisymm}
+use Prim.Native.Nat.{_+_, _*_}
 use native.Mathlib.Omega.{arith}
-use lib.ListN.{length, take, drop, length-set}
 use denote.Ref.{now}
-use Rattle.strip.specs.Picture.{upTo}
-use Rattle.strip.proofs.PictureLaws.{pixelAt, upTo-store, placed-over}
-use Rattle.strip.proofs.StripLaws.{drop-store}
+use Rattle.strip.proofs.PictureLaws.{take-upTo, placed-over}
+use borrow.Author.Needs.{needs}
 use Rattle.decode.proofs.placing.rows.Statement.{statement}
 use Rattle.decode.proofs.placing.rows.Tie as tie
+use Rattle.decode.proofs.placing.rows.Reads as reads
+use Rattle.decode.proofs.placing.rows.Lts as lts
+use Rattle.number.proofs.buffer.copy.Reads as copy-reads
 
-abbrev Inv-loop : tie.InvT-loop
-Inv-loop src h out₀ total j₀ out j =
-    (j ≤ total) × (length out ≡ length out₀) × (drop j out ≡ drop j out₀) × (take j out ≡ upTo (pixelAt false h src) j)
+mul-copy : tie.Need-mul-copy
+mul-copy c = search needs
 
-abbrev μ-loop : tie.MeasureT-loop
-μ-loop src h out₀ total j₀ out j = total - j
+copy-requires : tie.Need-copy-requires
+copy-requires c κs = search needs
 
-mul-total : tie.Need-mul-total Inv-loop μ-loop
-mul-total c = omega arith
+same-length : tie.Need-same-length
+same-length c = search needs
 
-loop-holds : tie.Need-loop-holds Inv-loop μ-loop
-loop-holds c = (zero-le, refl, refl, refl)
-
-shared-slice-read-out : tie.Need-shared-slice-read-out Inv-loop μ-loop
-shared-slice-read-out c = omega arith
-
-slice-write-out : tie.Need-slice-write-out Inv-loop μ-loop
-slice-write-out c = omega (arith, c .before .before .loop .inv .1)
-
-add-j : tie.Need-add-j Inv-loop μ-loop
-add-j c = omega arith
-
-loop-less : tie.Need-loop-less Inv-loop μ-loop
-loop-less c = omega arith
-
-loop-again : tie.Need-loop-again Inv-loop μ-loop
-loop-again c =
-    let a = c .before .before .before .args in
-    let l = c .before .before .loop in
-    let room : l .j < length (l .out) = omega (arith, l .inv .1) in (
-      omega arith,
-      length-set (l .out) (l .j) _ ∙ l .inv .1,
-      drop-store (l .out) _ (l .j) _ (l .inv .2),
-      upTo-store (pixelAt false (a .h) (now (a .src))) (l .out) (l .j) _ room (l .inv .3) refl,
-    )
-
-same-length : tie.Need-same-length Inv-loop μ-loop
-same-length c = c .before .loop .inv .1
-
-returns : tie.Need-returns Inv-loop μ-loop
+returns : tie.Need-returns
 returns c =
-    let a = c .before .before .args in
-    let l = c .before .loop in
-    let done : l .j ≡ 8 * a .h = le-antisymm (l .inv .0) (c .loop-test .left) in
-    placed-over false (a .h) (now (a .src)) (l .out) (now (a .out)) (rw done at (l .inv .3)) (rw done at (l .inv .2))
+    let a = c .before .before .before .before .before .before .args in
+    let e = c .before .before .copy .ensures in
+    let z : 0 + 8 * a .h ≡ 8 * a .h = omega arith in
+    placed-over false (a .h) (now (a .src)) (c .before .before .copy .last .1 .1 .1 .0) (now (a .out))
+    (rw z at (e .0) ∙ take-upTo (a .h) (now (a .src)) (8 * a .h) (c .before .before .before .before .before .before .pre .0)) (rw z at (e .1))
 
 pub rows-spec : {M : Type 1} → statement M
-rows-spec =
-    tie.close
-    (tie.spec
-    Inv-loop
-    μ-loop
-    mul-total
-    loop-holds
-    shared-slice-read-out
-    slice-write-out
-    add-j
-    loop-less
-    loop-again
-    same-length
-    returns)
+rows-spec = tie.close (tie.spec mul-copy copy-requires same-length returns)

@@ -1,5 +1,5 @@
-use Rattle.decode.proofs.PastLaws.{tally-start, tally-end, tested-as}
-use Rattle.decode.specs.Tally.{tally}
+use Rattle.decode.proofs.SkipLaws.{outcome-start, outcome-end, tested-as}
+use Rattle.decode.specs.Outcome.{outcome}
 use Rattle.bits.specs.Bits.{bitsOf, rest, Held}
 use lib.ListN.{drop}
 use denote.Ref.{now}
@@ -18,7 +18,7 @@ use Rattle.decode.proofs.test.turn.Reads as turn-reads
 
 abbrev Inv-loop : tie.InvT-loop
 Inv-loop body second w total rows st₀ st =
-    (st .i ≤ total) × Held body (st .cur) × (tally second w total 1 (bitsOf (drop 2 body)) ≡ tally second w (total - st .i) 0 (rest body (st .cur)))
+    (st .i ≤ total) × Held body (st .cur) × (outcome second w total 1 (bitsOf (drop 2 body)) ≡ outcome second w (total - st .i) 0 (rest body (st .cur)))
 
 abbrev μ-loop : tie.MeasureT-loop
 μ-loop body second w total rows st₀ st = total - st .i
@@ -30,7 +30,7 @@ loop-holds : tie.Need-loop-holds Inv-loop μ-loop
 loop-holds c =
     let a = c .before .before .before .args in
     let e = c .new .ensures in
-    (c .before .before .before .pre .1, e .held (now (a .body)) (c .before .before .before .pre .3), tally-start (a .second) (a .w) (a .total) (bitsOf (drop 2 (now (a .body)))) (c .before .before .before .pre .1) ∙ ap (λ (l : List Bool). tally (a .second) (a .w) (a .total - 1) 0 l) (sym (e .all (now (a .body)))))
+    (c .before .before .before .pre .1, e .held (now (a .body)) (c .before .before .before .pre .3), outcome-start (a .second) (a .w) (a .total) (bitsOf (drop 2 (now (a .body)))) (c .before .before .before .pre .1) ∙ ap (λ (l : List Bool). outcome (a .second) (a .w) (a .total - 1) 0 l) (sym (e .all (now (a .body)))))
 
 turn-requires : tie.Need-turn-requires Inv-loop μ-loop
 turn-requires c κs = (c .before .before .before .before .before .before .pre .0, c .before .before .loop .inv .1, c .if1 .taken, c .before .before .before .before .before .before .pre .2, c .before .before .before .before .before .before .pre .4, c .before .before .before .before .before .before .pre .5)
@@ -62,7 +62,7 @@ returns c =
 returns-2 : tie.Need-returns-2 Inv-loop μ-loop
 returns-2 c =
     let a = c .before .before .before .before .before .before .args in
-    sym (c .before .before .loop .inv .2 ∙ tally-end (a .second) (a .w) (a .total - c .before .before .loop .st .i) (rest (now (a .body)) (c .before .before .loop .st .cur)) (omega arith))
+    sym (c .before .before .loop .inv .2 ∙ outcome-end (a .second) (a .w) (a .total - c .before .before .loop .st .i) (rest (now (a .body)) (c .before .before .loop .st .cur)) (omega arith))
 
 pub test-bits-spec : {M : Type 1} → statement M
 test-bits-spec =

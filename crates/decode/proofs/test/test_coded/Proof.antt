@@ -1,6 +1,6 @@
-use Rattle.decode.proofs.TallyLaws.{test-coded, test-empty}
+use Rattle.decode.proofs.OutcomeLaws.{test-coded, test-empty}
 use Rattle.strip.proofs.PictureLaws.{coded-none}
-use Rattle.decode.specs.Tally.{testOf, tally}
+use Rattle.decode.specs.Outcome.{testOf, outcome}
 use Rattle.bits.specs.Bits.{bitsOf}
 use denote.Ref.{now}
 use lib.ListN.{drop}
@@ -42,7 +42,7 @@ test-bits-requires c κs = search needs
 
 -- src/test.rt:177:9
 returns-3 : tie.Need-returns-3
-returns-3 c = λ vertical clear. c .test-bits .ensures ∙ ap (λ (q : Bool). tally q (c .before .before .before .before .before .before .before .args .w) (8 * c .before .before .before .before .before .before .before .args .h) 1 (bitsOf (drop 2 (now (c .before .before .before .before .before .before .before .args .body))))) (sym (c .before .before .before .if3 .taken)) ∙ sym (test-coded (c .before .before .before .before .before .before .before .args .second) vertical clear (c .before .before .before .before .before .before .before .args .w) (c .before .before .before .before .before .before .before .args .h) (now (c .before .before .before .before .before .before .before .args .body)) (c .before .before .before .before .before .if1 .left))
+returns-3 c = λ vertical clear. c .test-bits .ensures ∙ ap (λ (q : Bool). outcome q (c .before .before .before .before .before .before .before .args .w) (8 * c .before .before .before .before .before .before .before .args .h) 1 (bitsOf (drop 2 (now (c .before .before .before .before .before .before .before .args .body))))) (sym (c .before .before .before .if3 .taken)) ∙ sym (test-coded (c .before .before .before .before .before .before .before .args .second) vertical clear (c .before .before .before .before .before .before .before .args .w) (c .before .before .before .before .before .before .before .args .h) (now (c .before .before .before .before .before .before .before .args .body)) (c .before .before .before .before .before .if1 .left))
 
 -- src/test.rt:179:16
 first-rows-requires : tie.Need-first-rows-requires
@@ -62,7 +62,7 @@ test-bits-requires-2 c κs = search needs
 
 -- src/test.rt:165:1
 returns-4 : tie.Need-returns-4
-returns-4 c = λ vertical clear. c .test-bits2 .ensures ∙ ap (λ (q : Bool). tally q (c .before .before .before .before .before .before .before .args .w) (8 * c .before .before .before .before .before .before .before .args .h) 1 (bitsOf (drop 2 (now (c .before .before .before .before .before .before .before .args .body))))) (sym (c .before .before .before .if3 .left)) ∙ sym (test-coded (c .before .before .before .before .before .before .before .args .second) vertical clear (c .before .before .before .before .before .before .before .args .w) (c .before .before .before .before .before .before .before .args .h) (now (c .before .before .before .before .before .before .before .args .body)) (c .before .before .before .before .before .if1 .left))
+returns-4 c = λ vertical clear. c .test-bits2 .ensures ∙ ap (λ (q : Bool). outcome q (c .before .before .before .before .before .before .before .args .w) (8 * c .before .before .before .before .before .before .before .args .h) 1 (bitsOf (drop 2 (now (c .before .before .before .before .before .before .before .args .body))))) (sym (c .before .before .before .if3 .left)) ∙ sym (test-coded (c .before .before .before .before .before .before .before .args .second) vertical clear (c .before .before .before .before .before .before .before .args .w) (c .before .before .before .before .before .before .before .args .h) (now (c .before .before .before .before .before .before .before .args .body)) (c .before .before .before .before .before .if1 .left))
 
 pub test-coded-spec : {M : Type 1} → statement M
 test-coded-spec =

@@ -1,5 +1,5 @@
 use Rattle.strip.proofs.PictureLaws.{raw-short, raw-full}
-use Rattle.decode.specs.Tally.{testOf}
+use Rattle.decode.specs.Outcome.{testOf}
 use denote.Ref.{now}
 use mathlib.Core.Path.{sym, ap}
 use native.Mathlib.Omega.{arith}

@@ -1,5 +1,5 @@
 use Rattle.strip.proofs.PictureLaws.{told-width, strip-none, strip-some}
-use Rattle.decode.specs.Tally.{testOf}
+use Rattle.decode.specs.Outcome.{testOf}
 use Rattle.strip.specs.Picture.{byKind}
 use denote.Ref.{now}
 use lib.ListN.{drop}

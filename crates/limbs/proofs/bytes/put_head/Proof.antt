@@ -1,64 +1,37 @@
--- `limbs::bytes::put_head` meets its contract. Assumes nothing.
-use native.Mathlib.Omega.{arith}
-use lib.ListN.{length-set}
+use mathlib.Core.Path.{ap, _∙_}
+use mathlib.Core.List.{List, [], _∷_}
+use Prim.Native.Nat.{ℕ, _+_}
+use lib.Seq.{sets}
+use denote.Ref.{now}
+use Rattle.number.proofs.StoreLaws.{sets-append}
 use borrow.Author.Needs.{needs}
-use Rattle.limbs.proofs.LimbLaws.{stores-on}
 use Rattle.limbs.proofs.bytes.put_head.Statement.{statement}
 use Rattle.limbs.proofs.bytes.put_head.Tie as tie
+use Rattle.limbs.proofs.bytes.put_head.Reads as reads
+use Rattle.limbs.proofs.bytes.put_head.Lts as lts
+use Rattle.number.proofs.buffer.put_four.Reads as put-four-reads
+use Rattle.number.proofs.buffer.put_two.Reads as put-two-reads
 
-slice-write-limbs : tie.Need-slice-write-limbs
-slice-write-limbs c = search needs
+put-four-requires : tie.Need-put-four-requires
+put-four-requires c κs = search needs
 
-add-limbs : tie.Need-add-limbs
-add-limbs c = search needs
+add-put-two : tie.Need-add-put-two
+add-put-two c = search needs
 
-slice-write-limbs-2 : tie.Need-slice-write-limbs-2
-slice-write-limbs-2 c = simp length-set (omega arith)
-
-add-limbs-2 : tie.Need-add-limbs-2
-add-limbs-2 c = search needs
-
-slice-write-limbs-3 : tie.Need-slice-write-limbs-3
-slice-write-limbs-3 c = simp length-set (omega arith)
-
-add-limbs-3 : tie.Need-add-limbs-3
-add-limbs-3 c = search needs
-
-slice-write-limbs-4 : tie.Need-slice-write-limbs-4
-slice-write-limbs-4 c = simp length-set (omega arith)
-
-add-limbs-4 : tie.Need-add-limbs-4
-add-limbs-4 c = search needs
-
-slice-write-limbs-5 : tie.Need-slice-write-limbs-5
-slice-write-limbs-5 c = simp length-set (omega arith)
-
-add-limbs-5 : tie.Need-add-limbs-5
-add-limbs-5 c = search needs
-
-slice-write-limbs-6 : tie.Need-slice-write-limbs-6
-slice-write-limbs-6 c = simp length-set (omega arith)
+put-two-requires : tie.Need-put-two-requires
+put-two-requires c κs = search needs
 
 same-length : tie.Need-same-length
 same-length c = search needs
 
 returns : tie.Need-returns
-returns c = stores-on (c .args .limbs .now) (c .args .at) (c .args .limb .active) (c .args .limb .stopped) (c .args .limb .noloop) (c .args .limb .shows) (c .args .limb .picture) (c .args .limb .len)
+returns c =
+    let a = c .before .before .before .before .before .before .before .before .before .args in
+    let x = a .limb in
+    c .before .before .put-two .ensures
+    ∙ ap (λ (l : List ℕ). sets l (a .at + 4) (x .picture ∷ x .len ∷ [])) (c .before .before .before .before .before .before .put-four .ensures)
+    ∙ sets-append (x .active ∷ x .stopped ∷ x .noloop ∷ x .shows ∷ []) (x .picture ∷ x .len ∷ []) (now (a .limbs)) (a .at)
 
 pub put-head-spec : {M : Type 1} → statement M
 put-head-spec =
-    tie.close
-    (tie.spec
-    slice-write-limbs
-    add-limbs
-    slice-write-limbs-2
-    add-limbs-2
-    slice-write-limbs-3
-    add-limbs-3
-    slice-write-limbs-4
-    add-limbs-4
-    slice-write-limbs-5
-    add-limbs-5
-    slice-write-limbs-6
-    same-length
-    returns)
+    tie.close (tie.spec put-four-requires add-put-two put-two-requires same-length returns)

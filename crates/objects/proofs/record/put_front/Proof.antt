@@ -2,7 +2,7 @@ use mathlib.Core.List.{_++_}
 use native.Mathlib.Numerals.{add-one}
 use lib.ListN.{length-set}
 use lib.Seq.{take-suc, take-suc-set, take-all}
-use Rattle.strip.proofs.StripLaws.{drop-store}
+use Rattle.number.proofs.BufferLaws.{drop-store}
 use Rattle.strip.proofs.PictureLaws.{over-of}
 use lib.ListN.{length, take, drop, getD}
 use denote.Ref.{now}

@@ -13,7 +13,7 @@ use Rattle.verdict.proofs.judge.judge_history.Reads as judge-history-reads
 use Rattle.point.proofs.call.answer.Reads as answer-reads
 use Rattle.point.proofs.call.seek.Reads as seek-reads
 use Rattle.session.proofs.plan.valid_shown.Reads as valid-shown-reads
-use Rattle.replay.proofs.tables.wide.Reads as wide-reads
+use Rattle.number.proofs.wide_u32.Reads as wide-u32-reads
 
 -- src/call.rt:77:44
 slice-aggregate-judge-history : tie.Need-slice-aggregate-judge-history
@@ -46,26 +46,26 @@ returns c =
     asked-wrong (now (a .room)) (a .r) (now (a .table)) v (now (a .session)) (now (a .flags)) (a .x) (a .y) (c .before .before .before .before .before .before .judge-history .ensures) (c .before .before .valid-shown .result) (rw (c .before .before .before .before .size-of .ensures) at (c .before .before .valid-shown .ensures .plan)) (c .if1 .taken)
 
 -- src/call.rt:83:9
-wide-requires : tie.Need-wide-requires
-wide-requires c κs = search needs
+wide-u32-requires : tie.Need-wide-u32-requires
+wide-u32-requires c κs = search needs
 
 -- src/call.rt:84:9
-wide-requires-2 : tie.Need-wide-requires-2
-wide-requires-2 c κs = search needs
+wide-u32-requires-2 : tie.Need-wide-u32-requires-2
+wide-u32-requires-2 c κs = search needs
 
 -- src/call.rt:86:9
 returns-2 : tie.Need-returns-2
 returns-2 c =
     let a = c .before .before .before .before .before .before .before .before .before .before .before .before .before .before .before .before .args in
     let v = c .before .before .before .before .before .before .before .before .before .before .judge-history .last .1 .1 .1 .1 .0 in
-    asked-right-of (now (a .room)) (a .r) (now (a .table)) v (now (a .session)) (now (a .flags)) (a .x) (a .y) (c .before .before .before .before .before .before .before .before .before .before .judge-history .ensures) (c .before .before .before .before .before .before .valid-shown .result) (rw (c .before .before .before .before .before .before .before .before .size-of .ensures) at (c .before .before .before .before .before .before .valid-shown .ensures .plan)) (c .before .before .before .before .if1 .left) (omega (arith, c .before .before .before .wide .ensures .0, c .if2 .taken))
+    asked-right-of (now (a .room)) (a .r) (now (a .table)) v (now (a .session)) (now (a .flags)) (a .x) (a .y) (c .before .before .before .before .before .before .before .before .before .before .judge-history .ensures) (c .before .before .before .before .before .before .valid-shown .result) (rw (c .before .before .before .before .before .before .before .before .size-of .ensures) at (c .before .before .before .before .before .before .valid-shown .ensures .plan)) (c .before .before .before .before .if1 .left) (omega (arith, c .before .before .before .wide-u32 .ensures .0, c .if2 .taken))
 
 -- src/call.rt:89:9
 returns-3 : tie.Need-returns-3
 returns-3 c =
     let a = c .before .before .before .before .before .before .before .before .before .before .before .before .before .before .before .before .before .before .args in
     let v = c .before .before .before .before .before .before .before .before .before .before .before .before .judge-history .last .1 .1 .1 .1 .0 in
-    asked-below (now (a .room)) (a .r) (now (a .table)) v (now (a .session)) (now (a .flags)) (a .x) (a .y) (c .before .before .before .before .before .before .before .before .before .before .before .before .judge-history .ensures) (c .before .before .before .before .before .before .before .before .valid-shown .result) (rw (c .before .before .before .before .before .before .before .before .before .before .size-of .ensures) at (c .before .before .before .before .before .before .before .before .valid-shown .ensures .plan)) (c .before .before .before .before .before .before .if1 .left) (omega (arith, c .before .before .before .before .before .wide .ensures .0, c .before .before .if2 .left)) (omega (arith, c .before .before .before .before .wide2 .ensures .0, c .if3 .taken))
+    asked-below (now (a .room)) (a .r) (now (a .table)) v (now (a .session)) (now (a .flags)) (a .x) (a .y) (c .before .before .before .before .before .before .before .before .before .before .before .before .judge-history .ensures) (c .before .before .before .before .before .before .before .before .valid-shown .result) (rw (c .before .before .before .before .before .before .before .before .before .before .size-of .ensures) at (c .before .before .before .before .before .before .before .before .valid-shown .ensures .plan)) (c .before .before .before .before .before .before .if1 .left) (omega (arith, c .before .before .before .before .before .wide-u32 .ensures .0, c .before .before .if2 .left)) (omega (arith, c .before .before .before .before .wide-u322 .ensures .0, c .if3 .taken))
 
 -- src/call.rt:91:9
 seek-requires : tie.Need-seek-requires
@@ -83,8 +83,8 @@ returns-4 : tie.Need-returns-4
 returns-4 c =
     let a = c .before .before .before .before .before .before .before .before .before .before .before .before .before .before .before .before .before .before .before .before .args in
     let v = c .before .before .before .before .before .before .before .before .before .before .before .before .before .before .judge-history .last .1 .1 .1 .1 .0 in
-    asked-in (now (a .room)) (a .r) (now (a .table)) v (now (a .session)) (now (a .flags)) (c .before .before .before .before .before .before .before .wide .result) (c .before .before .before .before .before .before .wide2 .result) (c .before .before .before .before .before .before .before .before .before .before .before .before .before .before .judge-history .ensures) (c .before .before .before .before .before .before .before .before .before .before .valid-shown .result) (rw (c .before .before .before .before .before .before .before .before .before .before .before .before .size-of .ensures) at (c .before .before .before .before .before .before .before .before .before .before .valid-shown .ensures .plan)) (c .before .before .before .before .before .before .before .before .if1 .left) (omega (arith, c .before .before .before .before .if2 .left)) (omega (arith, c .before .before .if3 .left)) _ _ (c .answer .ensures) (c .before .seek .ensures)
-    ∙ (λ i. asked (now (a .room)) (a .r) (now (a .session)) (now (a .flags)) (c .before .before .before .before .before .before .before .wide .ensures .0 i) (c .before .before .before .before .before .before .wide2 .ensures .0 i))
+    asked-in (now (a .room)) (a .r) (now (a .table)) v (now (a .session)) (now (a .flags)) (c .before .before .before .before .before .before .before .wide-u32 .result) (c .before .before .before .before .before .before .wide-u322 .result) (c .before .before .before .before .before .before .before .before .before .before .before .before .before .before .judge-history .ensures) (c .before .before .before .before .before .before .before .before .before .before .valid-shown .result) (rw (c .before .before .before .before .before .before .before .before .before .before .before .before .size-of .ensures) at (c .before .before .before .before .before .before .before .before .before .before .valid-shown .ensures .plan)) (c .before .before .before .before .before .before .before .before .if1 .left) (omega (arith, c .before .before .before .before .if2 .left)) (omega (arith, c .before .before .if3 .left)) _ _ (c .answer .ensures) (c .before .seek .ensures)
+    ∙ (λ i. asked (now (a .room)) (a .r) (now (a .session)) (now (a .flags)) (c .before .before .before .before .before .before .before .wide-u32 .ensures .0 i) (c .before .before .before .before .before .before .wide-u322 .ensures .0 i))
 
 pub ask-spec : {M : Type 1} → statement M
 ask-spec =
@@ -96,8 +96,8 @@ ask-spec =
     slice-aggregate-valid-shown
     valid-shown-requires
     returns
-    wide-requires
-    wide-requires-2
+    wide-u32-requires
+    wide-u32-requires-2
     returns-2
     returns-3
     seek-requires

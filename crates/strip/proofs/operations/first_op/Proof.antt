@@ -11,7 +11,7 @@ use Rattle.strip.proofs.operations.first_op.Statement.{statement}
 use Rattle.strip.proofs.operations.first_op.Tie as tie
 use Rattle.strip.proofs.operations.first_op.Reads as reads
 use Rattle.strip.proofs.operations.first_op.Lts as lts
-use Rattle.bits.proofs.Cursor.look.Reads as look-reads
+use Rattle.bits.proofs.Cursor.peek.Reads as peek-reads
 use Rattle.bits.proofs.Cursor.take.Reads as take-reads
 use Rattle.strip.proofs.operations.either.Reads as either-reads
 use Rattle.strip.proofs.operations.length_of.Reads as length-of-reads
@@ -20,8 +20,8 @@ use Rattle.strip.proofs.operations.less.Reads as less-reads
 take-requires : tie.Need-take-requires
 take-requires c κs = (c .before .pre .1 .two, c .before .pre .2)
 
-look-requires : tie.Need-look-requires
-look-requires c κs = search needs
+peek-requires : tie.Need-peek-requires
+peek-requires c κs = search needs
 
 less-requires : tie.Need-less-requires
 less-requires c κs = search needs
@@ -38,13 +38,13 @@ length-of-requires c κs = search needs
 take-requires-2 : tie.Need-take-requires-2
 take-requires-2 c κs =
     let head = c .before .before .before .before .before .before .before .take in
-    (rw (c .length-of .ensures .0) (c .before .before .before .before .before .before .before .before .before .pre .1 .all [] (head .result .bits) _ (head .ensures .front [])), c .before .before .before .before .before .before .before .before .before .pre .2)
+    (rw (c .length-of .ensures .0) (c .before .before .before .before .before .before .before .before .before .pre .1 .all [] (head .result .value) _ (head .ensures .front [])), c .before .before .before .before .before .before .before .before .before .pre .2)
 
 add-t16 : tie.Need-add-t16
 add-t16 c = search needs
 
-look-requires-2 : tie.Need-look-requires-2
-look-requires-2 c κs = search needs
+peek-requires-2 : tie.Need-peek-requires-2
+peek-requires-2 c κs = search needs
 
 either-requires-2 : tie.Need-either-requires-2
 either-requires-2 c κs = search needs
@@ -60,8 +60,8 @@ returns c =
     let length = c .before .before .before .before .before .before .length-of in
     let turned = c .before .before .before .before .before .before .before .before .either in
     let walked = c .before .before .before .before .before .before .before .less2 in
-    let sign = c .before .before .before .before .before .before .before .before .before .before .look in
-    let index = c .before .before .look2 in
+    let sign = c .before .before .before .before .before .before .before .before .before .before .peek in
+    let index = c .before .before .peek2 in
     record {
       on = refl;
       few = omega (arith, taken .ensures .fewer, length .ensures .1);
@@ -70,11 +70,11 @@ returns c =
       leads = λ s one no-run.
           first-leads (a .w) s (a .st)
           (record { i = a .st .i + 1; colour = c .before .either2 .result; step = c .either3 .result; cur = taken .result .next })
-          (head .result .next) (head .result .bits) (taken .result .bits) (head .ensures) one
+          (head .result .next) (head .result .value) (taken .result .value) (head .ensures) one
           (turned .result) (walked .result) (sign .result) (index .result)
           (turned .ensures ∙ ap (λ (x : ℕ). cond (eqb (sign .result) 1) x (a .st .step)) (c .before .before .before .before .before .before .before .before .before .less .ensures))
           (walked .ensures) (sign .ensures) (index .ensures)
-          (subst (λ (n : ℕ). Hands n (taken .result .bits) (a .st .cur) (taken .result .next)) (length .ensures .0) (taken .ensures))
+          (subst (λ (n : ℕ). Hands n (taken .result .value) (a .st .cur) (taken .result .next)) (length .ensures .0) (taken .ensures))
           (c .before .either2 .ensures) (c .either3 .ensures);
     }
 
@@ -83,14 +83,14 @@ first-op-spec =
     tie.close
     (tie.spec
     take-requires
-    look-requires
+    peek-requires
     less-requires
     either-requires
     less-requires-2
     length-of-requires
     take-requires-2
     add-t16
-    look-requires-2
+    peek-requires-2
     either-requires-2
     either-requires-3
     returns)

@@ -46,7 +46,7 @@ returns-3 c = λ s held full no-run.
     let taken = c .before .before .before .before .before .take in
     refuses (a .second) (a .w) (a .total) s (a .st) 7 (c .before .before .before .before .before .before .before .before .before .pre .2)
     (c .before .whole .ensures .1 (not-true _ (c .if3 .taken)) s full
-    (one-first (rest s (a .st .cur)) (rest s (taken .result .next)) (taken .result .bits) (taken .ensures .front s) (c .before .before .if2 .left)) (a .st .colour) (a .st .step))
+    (one-first (rest s (a .st .cur)) (rest s (taken .result .next)) (taken .result .value) (taken .ensures .front s) (c .before .before .if2 .left)) (a .st .colour) (a .st .step))
 
 op-requires : tie.Need-op-requires
 op-requires c κs = (c .before .before .before .before .before .before .before .before .before .pre .0, c .before .whole .ensures .0 (not-false _ (c .if3 .left)), c .before .before .before .before .before .before .before .before .before .pre .1, omega (arith, c .before .before .before .before .before .before .before .before .before .pre .2, c .before .before .before .before .before .before .before .before .before .pre .3))
@@ -56,7 +56,7 @@ returns-4 c = λ s held full no-run.
     let a = c .before .before .before .before .before .before .before .before .before .before .args in
     let taken = c .before .before .before .before .before .before .take in
     op-stepped (a .second) (a .w) (a .total) s (a .st) (c .before .before .before .before .before .before .before .before .before .before .pre .2) held (c .op .result) (c .op .ensures)
-    (one-first (rest s (a .st .cur)) (rest s (taken .result .next)) (taken .result .bits) (taken .ensures .front s) (c .before .before .before .if2 .left)) no-run
+    (one-first (rest s (a .st .cur)) (rest s (taken .result .next)) (taken .result .value) (taken .ensures .front s) (c .before .before .before .if2 .left)) no-run
 
 pub one-spec : {M : Type 1} → statement M
 one-spec =

@@ -1,5 +1,5 @@
 use Rattle.strip.proofs.PlaceLaws.{few-no-run}
-use Rattle.bits.proofs.CursorLaws.{all-in-hand}
+use Rattle.bits.proofs.CursorLaws.{all-held}
 use Rattle.bits.specs.Bits.{rest}
 use native.Mathlib.Omega.{arith}
 use mathlib.Core.Path.{sym}
@@ -19,7 +19,7 @@ returns : tie.Need-returns
 returns c = λ s full.
     let cur = c .before .before .args .cur in
     let few = c .before .holds .ensures .1 (not-true _ (c .if1 .taken)) in
-    sym (few-no-run (c .before .before .args .second) (rest s cur) (rw (all-in-hand s cur full (omega arith)) few))
+    sym (few-no-run (c .before .before .args .second) (rest s cur) (rw (all-held s cur full (omega arith)) few))
 
 run-at-requires : tie.Need-run-at-requires
 run-at-requires c κs = (c .before .holds .ensures .0 (not-false _ (c .if1 .left)), c .before .before .pre)

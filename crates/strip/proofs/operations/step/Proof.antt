@@ -1,4 +1,4 @@
-use Rattle.strip.proofs.PlaceLaws.{first-of, second-of}
+use Rattle.number.proofs.BoolLaws.{and-left, and-right}
 use Rattle.strip.specs.Place.{isRun, Stepped}
 use Rattle.bits.specs.Bits.{pull, rest}
 use mathlib.Core.Path.{sym, _∙_, subst}
@@ -23,8 +23,8 @@ returns c = λ s held full.
     let a = c .before .before .before .before .args in
     let is-run = sym (c .before .before .run-left .ensures s full) ∙ c .before .if1 .taken in
     let ahead = isRun (pull 5 (rest s (a .st .cur))) in
-    subst (λ (q : Bool). Stepped q (a .w) (a .total) s (a .st) (c .run .result)) (sym (first-of (a .second) ahead is-run))
-    (c .run .ensures (a .w) s held full (second-of (a .second) ahead is-run))
+    subst (λ (q : Bool). Stepped q (a .w) (a .total) s (a .st) (c .run .result)) (sym (and-left (a .second) ahead is-run))
+    (c .run .ensures (a .w) s held full (and-right (a .second) ahead is-run))
 
 one-requires : tie.Need-one-requires
 one-requires c κs = search needs

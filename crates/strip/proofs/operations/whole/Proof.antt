@@ -1,6 +1,6 @@
 use Rattle.strip.proofs.OpLaws.{op-one, op-cut}
 use Rattle.strip.specs.Place.{opLength, secondBit}
-use Rattle.bits.proofs.CursorLaws.{all-in-hand}
+use Rattle.bits.proofs.CursorLaws.{all-held}
 use Rattle.bits.proofs.BitLaws.{got-value}
 use Rattle.bits.specs.Bits.{rest}
 use lib.ListN.{length}
@@ -27,7 +27,7 @@ returns c = (
   λ e s full one colour step.
       let cur = c .before .before .args .cur in
       let few = c .before .holds .ensures .1 (not-true _ (c .if1 .taken)) in
-      op-one (c .before .before .args .second) (c .before .before .args .w) colour step (rest s cur) one (rw (all-in-hand s cur full (omega arith)) few),
+      op-one (c .before .before .args .second) (c .before .before .args .w) colour step (rest s cur) one (rw (all-held s cur full (omega arith)) few),
 )
 
 take-requires : tie.Need-take-requires
@@ -48,14 +48,14 @@ returns-2 c =
         two = c .before .before .before .before .before .holds .ensures .0 (not-false _ (c .before .before .before .before .if1 .left));
         all = λ s v l p.
             let same = got-value (sym (head .ensures .front s) ∙ p) in
-            subst (λ (x : ℕ). opLength (a .second) (a .w) (secondBit x) ≤ a .cur .have) same
-            (subst (λ (n : ℕ). n ≤ a .cur .have) (size .ensures .0) (c .holds2 .ensures .0 e));
+            subst (λ (x : ℕ). opLength (a .second) (a .w) (secondBit x) ≤ a .cur .bits) same
+            (subst (λ (n : ℕ). n ≤ a .cur .bits) (size .ensures .0) (c .holds2 .ensures .0 e));
       }),
       λ e s full one colour step.
           let few = c .holds2 .ensures .1 e in
           let short = size .ensures .1 in
-          op-cut (a .second) (a .w) colour step (head .result .bits) (rest s (a .cur)) (rest s (head .result .next)) (head .ensures .front s) one
-          (subst (λ (n : ℕ). length (rest s (a .cur)) < n) (size .ensures .0) (rw (all-in-hand s (a .cur) full (omega arith)) few)),
+          op-cut (a .second) (a .w) colour step (head .result .value) (rest s (a .cur)) (rest s (head .result .next)) (head .ensures .front s) one
+          (subst (λ (n : ℕ). length (rest s (a .cur)) < n) (size .ensures .0) (rw (all-held s (a .cur) full (omega arith)) few)),
     )
 
 pub whole-spec : {M : Type 1} → statement M

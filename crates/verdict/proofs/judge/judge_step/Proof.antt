@@ -7,11 +7,11 @@ use Rattle.verdict.proofs.judge.judge_step.Tie as tie
 enum-known-step : tie.Need-enum-known-step
 enum-known-step c = search needs
 
-wide-requires : tie.Need-wide-requires
-wide-requires c κs = search needs
+wide-u32-requires : tie.Need-wide-u32-requires
+wide-u32-requires c κs = search needs
 
-wide-requires-2 : tie.Need-wide-requires-2
-wide-requires-2 c κs = search needs
+wide-u32-requires-2 : tie.Need-wide-u32-requires-2
+wide-u32-requires-2 c κs = search needs
 
 judge-image-requires : tie.Need-judge-image-requires
 judge-image-requires c κs = search needs
@@ -23,7 +23,7 @@ same-length : tie.Need-same-length
 same-length c = search needs
 
 returns : tie.Need-returns
-returns c = judged-step _ (c .before .before .before .before .before .before .before .before .before .before .before .before .args .r) _ _ _ _ _ _ _ _ (c .before .before .before .before .before .before .before .step .given .1) (c .before .before .before .before .before .wide .ensures .0) (c .before .before .before .before .wide2 .ensures .0) (c .before .before .judge-image .ensures)
+returns c = judged-step _ (c .before .before .before .before .before .before .before .before .before .before .before .before .args .r) _ _ _ _ _ _ _ _ (c .before .before .before .before .before .before .before .step .given .1) (c .before .before .before .before .before .wide-u32 .ensures .0) (c .before .before .before .before .wide-u322 .ensures .0) (c .before .before .judge-image .ensures)
 
 returns-2 : tie.Need-returns-2
 returns-2 c = λ h j. rw (c .enum-told .given .1) (judged-hidden _ (c .before .before .before .before .before .args .r) _ h _ j)
@@ -33,8 +33,8 @@ judge-step-spec =
     tie.close
     (tie.spec
     enum-known-step
-    wide-requires
-    wide-requires-2
+    wide-u32-requires
+    wide-u32-requires-2
     judge-image-requires
     enum-told
     same-length

@@ -14,43 +14,43 @@ image-drawable-requires c κs = search needs
 returns : tie.Need-returns
 returns c = right-none _ (c .before .before .before .before .args .r) _ _ (sym (not-true _ (c .if1 .taken)) ∙ c .before .image-drawable .ensures)
 
-mul-wide : tie.Need-mul-wide
-mul-wide c = search needs
+mul-wide-u32 : tie.Need-mul-wide-u32
+mul-wide-u32 c = search needs
 
-add-wide : tie.Need-add-wide
-add-wide c = search needs
+add-wide-u32 : tie.Need-add-wide-u32
+add-wide-u32 c = search needs
 
-mul-wide-2 : tie.Need-mul-wide-2
-mul-wide-2 c = search needs
+mul-wide-u32-2 : tie.Need-mul-wide-u32-2
+mul-wide-u32-2 c = search needs
 
-shared-slice-read-wide : tie.Need-shared-slice-read-wide
-shared-slice-read-wide c = search needs
+shared-slice-read-wide-u32 : tie.Need-shared-slice-read-wide-u32
+shared-slice-read-wide-u32 c = search needs
 
-wide-requires : tie.Need-wide-requires
-wide-requires c κs = search needs
+wide-u32-requires : tie.Need-wide-u32-requires
+wide-u32-requires c κs = search needs
 
-mul-wide-3 : tie.Need-mul-wide-3
-mul-wide-3 c = search needs
+mul-wide-u32-3 : tie.Need-mul-wide-u32-3
+mul-wide-u32-3 c = search needs
 
-add-wide-2 : tie.Need-add-wide-2
-add-wide-2 c = search needs
+add-wide-u32-2 : tie.Need-add-wide-u32-2
+add-wide-u32-2 c = search needs
 
-mul-wide-4 : tie.Need-mul-wide-4
-mul-wide-4 c = search needs
+mul-wide-u32-4 : tie.Need-mul-wide-u32-4
+mul-wide-u32-4 c = search needs
 
-shared-slice-read-wide-2 : tie.Need-shared-slice-read-wide-2
-shared-slice-read-wide-2 c = search needs
+shared-slice-read-wide-u32-2 : tie.Need-shared-slice-read-wide-u32-2
+shared-slice-read-wide-u32-2 c = search needs
 
-wide-requires-2 : tie.Need-wide-requires-2
-wide-requires-2 c κs = search needs
+wide-u32-requires-2 : tie.Need-wide-u32-requires-2
+wide-u32-requires-2 c κs = search needs
 
 returns-2 : tie.Need-returns-2
 returns-2 c =
-    right-wide _ (c .before .before .before .before .before .before .before .before .before .before .args .r) _ _ _ (c .before .before .before .before .before .before .before .before .before .before .pre .0 .0) (c .before .before .before .before .before .before .before .before .before .before .pre .0 .1) (c .before .before .before .before .before .before .before .before .before .before .pre .1 .0) (c .before .before .before .before .before .before .before .before .before .before .pre .1 .1) (sym (not-false _ (c .before .before .before .before .before .before .if1 .left)) ∙ c .before .before .before .before .before .before .before .image-drawable .ensures) _ (c .before .before .before .before .wide .ensures .0) (c .if2 .taken)
+    right-wide _ (c .before .before .before .before .before .before .before .before .before .before .args .r) _ _ _ (c .before .before .before .before .before .before .before .before .before .before .pre .0 .0) (c .before .before .before .before .before .before .before .before .before .before .pre .0 .1) (c .before .before .before .before .before .before .before .before .before .before .pre .1 .0) (c .before .before .before .before .before .before .before .before .before .before .pre .1 .1) (sym (not-false _ (c .before .before .before .before .before .before .if1 .left)) ∙ c .before .before .before .before .before .before .before .image-drawable .ensures) _ (c .before .before .before .before .wide-u32 .ensures .0) (c .if2 .taken)
 
 returns-3 : tie.Need-returns-3
 returns-3 c =
-    right-high _ (c .before .before .before .before .before .before .before .before .before .before .before .before .args .r) _ _ _ (c .before .before .before .before .before .before .before .before .before .before .before .before .pre .0 .0) (c .before .before .before .before .before .before .before .before .before .before .before .before .pre .0 .1) (c .before .before .before .before .before .before .before .before .before .before .before .before .pre .1 .0) (c .before .before .before .before .before .before .before .before .before .before .before .before .pre .1 .1) (sym (not-false _ (c .before .before .before .before .before .before .before .before .if1 .left)) ∙ c .before .before .before .before .before .before .before .before .before .image-drawable .ensures) _ (c .before .before .before .before .wide2 .ensures .0) (c .if3 .taken)
+    right-high _ (c .before .before .before .before .before .before .before .before .before .before .before .before .args .r) _ _ _ (c .before .before .before .before .before .before .before .before .before .before .before .before .pre .0 .0) (c .before .before .before .before .before .before .before .before .before .before .before .before .pre .0 .1) (c .before .before .before .before .before .before .before .before .before .before .before .before .pre .1 .0) (c .before .before .before .before .before .before .before .before .before .before .before .before .pre .1 .1) (sym (not-false _ (c .before .before .before .before .before .before .before .before .if1 .left)) ∙ c .before .before .before .before .before .before .before .before .before .image-drawable .ensures) _ (c .before .before .before .before .wide-u322 .ensures .0) (c .if3 .taken)
 
 state-block-requires : tie.Need-state-block-requires
 state-block-requires c κs = (c .before .before .before .before .before .before .before .before .before .before .before .before .pre .0 .0 .gathered, c .before .before .before .before .before .before .before .before .before .before .before .before .pre .1 .0, omega (arith, c .before .before .before .before .before .before .before .before .before .before .before .before .pre .1 .1, c .before .before .before .before .before .before .before .before .before .before .before .before .pre .0 .1), c .before .before .before .before .before .before .before .before .before .before .before .before .pre .1 .2)
@@ -82,11 +82,11 @@ enum-known-number c = search needs
 
 returns-5 : tie.Need-returns-5
 returns-5 c =
-    right-tested _ (c .before .before .before .before .before .before .before .before .before .before .before .before .before .before .before .before .before .before .before .args .r) _ _ _ (c .before .before .before .before .before .before .before .before .before .before .before .before .before .before .before .before .before .before .before .pre .0 .0) (c .before .before .before .before .before .before .before .before .before .before .before .before .before .before .before .before .before .before .before .pre .0 .1) (c .before .before .before .before .before .before .before .before .before .before .before .before .before .before .before .before .before .before .before .pre .1 .0) (c .before .before .before .before .before .before .before .before .before .before .before .before .before .before .before .before .before .before .before .pre .1 .1) (sym (not-false _ (c .before .before .before .before .before .before .before .before .before .before .before .before .before .before .before .if1 .left)) ∙ c .before .before .before .before .before .before .before .before .before .before .before .before .before .before .before .before .image-drawable .ensures) _ _ _ _ (c .before .before .before .before .before .before .before .before .before .before .before .before .before .wide .ensures .0) (c .before .before .before .before .before .before .before .before .before .before .before .wide2 .ensures .0) (sym (c .before .before .before .before .b .given .1) ∙ c .before .before .before .before .before .before .state-block .ensures) _ (sym (c .enum-told2 .given .1) ∙ c .before .before .test-image .ensures)
+    right-tested _ (c .before .before .before .before .before .before .before .before .before .before .before .before .before .before .before .before .before .before .before .args .r) _ _ _ (c .before .before .before .before .before .before .before .before .before .before .before .before .before .before .before .before .before .before .before .pre .0 .0) (c .before .before .before .before .before .before .before .before .before .before .before .before .before .before .before .before .before .before .before .pre .0 .1) (c .before .before .before .before .before .before .before .before .before .before .before .before .before .before .before .before .before .before .before .pre .1 .0) (c .before .before .before .before .before .before .before .before .before .before .before .before .before .before .before .before .before .before .before .pre .1 .1) (sym (not-false _ (c .before .before .before .before .before .before .before .before .before .before .before .before .before .before .before .if1 .left)) ∙ c .before .before .before .before .before .before .before .before .before .before .before .before .before .before .before .before .image-drawable .ensures) _ _ _ _ (c .before .before .before .before .before .before .before .before .before .before .before .before .before .wide-u32 .ensures .0) (c .before .before .before .before .before .before .before .before .before .before .before .wide-u322 .ensures .0) (sym (c .before .before .before .before .b .given .1) ∙ c .before .before .before .before .before .before .state-block .ensures) _ (sym (c .enum-told2 .given .1) ∙ c .before .before .test-image .ensures)
 
 returns-6 : tie.Need-returns-6
 returns-6 c =
-    right-tested _ (c .before .before .before .before .before .before .before .before .before .before .before .before .before .before .before .before .before .before .before .before .args .r) _ _ _ (c .before .before .before .before .before .before .before .before .before .before .before .before .before .before .before .before .before .before .before .before .pre .0 .0) (c .before .before .before .before .before .before .before .before .before .before .before .before .before .before .before .before .before .before .before .before .pre .0 .1) (c .before .before .before .before .before .before .before .before .before .before .before .before .before .before .before .before .before .before .before .before .pre .1 .0) (c .before .before .before .before .before .before .before .before .before .before .before .before .before .before .before .before .before .before .before .before .pre .1 .1) (sym (not-false _ (c .before .before .before .before .before .before .before .before .before .before .before .before .before .before .before .before .if1 .left)) ∙ c .before .before .before .before .before .before .before .before .before .before .before .before .before .before .before .before .before .image-drawable .ensures) _ _ _ _ (c .before .before .before .before .before .before .before .before .before .before .before .before .before .before .wide .ensures .0) (c .before .before .before .before .before .before .before .before .before .before .before .before .wide2 .ensures .0) (sym (c .before .before .before .before .before .b .given .1) ∙ c .before .before .before .before .before .before .before .state-block .ensures) _ (sym (c .before .number .given .1) ∙ c .before .before .before .test-image .ensures)
+    right-tested _ (c .before .before .before .before .before .before .before .before .before .before .before .before .before .before .before .before .before .before .before .before .args .r) _ _ _ (c .before .before .before .before .before .before .before .before .before .before .before .before .before .before .before .before .before .before .before .before .pre .0 .0) (c .before .before .before .before .before .before .before .before .before .before .before .before .before .before .before .before .before .before .before .before .pre .0 .1) (c .before .before .before .before .before .before .before .before .before .before .before .before .before .before .before .before .before .before .before .before .pre .1 .0) (c .before .before .before .before .before .before .before .before .before .before .before .before .before .before .before .before .before .before .before .before .pre .1 .1) (sym (not-false _ (c .before .before .before .before .before .before .before .before .before .before .before .before .before .before .before .before .if1 .left)) ∙ c .before .before .before .before .before .before .before .before .before .before .before .before .before .before .before .before .before .image-drawable .ensures) _ _ _ _ (c .before .before .before .before .before .before .before .before .before .before .before .before .before .before .wide-u32 .ensures .0) (c .before .before .before .before .before .before .before .before .before .before .before .before .wide-u322 .ensures .0) (sym (c .before .before .before .before .before .b .given .1) ∙ c .before .before .before .before .before .before .before .state-block .ensures) _ (sym (c .before .number .given .1) ∙ c .before .before .before .test-image .ensures)
 
 pub verdict-of-spec : {M : Type 1} → statement M
 verdict-of-spec =
@@ -94,16 +94,16 @@ verdict-of-spec =
     (tie.spec
     image-drawable-requires
     returns
-    mul-wide
-    add-wide
-    mul-wide-2
-    shared-slice-read-wide
-    wide-requires
-    mul-wide-3
-    add-wide-2
-    mul-wide-4
-    shared-slice-read-wide-2
-    wide-requires-2
+    mul-wide-u32
+    add-wide-u32
+    mul-wide-u32-2
+    shared-slice-read-wide-u32
+    wide-u32-requires
+    mul-wide-u32-3
+    add-wide-u32-2
+    mul-wide-u32-4
+    shared-slice-read-wide-u32-2
+    wide-u32-requires-2
     returns-2
     returns-3
     state-block-requires
