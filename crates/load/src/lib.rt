@@ -4,7 +4,6 @@ pub mod paint;
 ghost use mathlib.Core.Path.{_≡_};
 ghost use Prim.Native.Nat.{_*_, _≤_};
 ghost use lib.ListN.{length};
-ghost use Rattle.table.specs.Test.{blockTest, leftmost};
 ghost use Rattle.table.specs.declared.Test.the-variants.{Passed};
 ghost use Rattle.room.specs.Head.{Sound};
 ghost use Rattle.room.specs.Test.{strips, planeTest, picturesTest, numberOf};

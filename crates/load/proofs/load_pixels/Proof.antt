@@ -2,7 +2,7 @@
 use Rattle.load.proofs.LoadLaws.{background-passes}
 use Rattle.load.specs.Load.{background, loadedPixels}
 use native.Mathlib.Omega.{arith}
-use Prim.Native.Nat.{_-_, _*_, _/_}
+use Prim.Native.Nat.{_*_, _/_}
 use mathlib.Core.Path.{_≡_}
 use borrow.Author.Needs.{needs}
 use Rattle.load.proofs.load_pixels.Statement.{statement}

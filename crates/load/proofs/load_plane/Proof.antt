@@ -4,7 +4,6 @@ use Rattle.load.specs.Load.{mask, loadedPlane}
 use Rattle.room.specs.Test.{planeIn}
 use Rattle.block.proofs.Laws.{nth-at}
 use native.Mathlib.Omega.{arith}
-use Prim.Native.Nat.{_-_}
 use mathlib.Core.Path.{sym, _∙_}
 use borrow.Author.Needs.{needs}
 use Rattle.load.proofs.load_plane.Statement.{statement}

@@ -1,4 +1,4 @@
--- `load::paint::clear_plane` meets its contract.
+-- `load::paint::clear_plane` meets its contract. Assumes nothing.
 use Prim.Native.Nat.{_+_, _-_, _*_, _≤_}
 use native.Mathlib.Nat.{mul-le-mul-right}
 use native.Mathlib.Omega.{arith}

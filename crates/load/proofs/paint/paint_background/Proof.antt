@@ -1,4 +1,4 @@
--- `load::paint::paint_background` meets its contract.
+-- `load::paint::paint_background` meets its contract. Assumes nothing.
 use mathlib.Core.Path.{_≡_, refl}
 use Prim.Native.Nat.{_+_, _-_, _*_, _≤_}
 use native.Mathlib.Omega.{arith}

@@ -1,4 +1,4 @@
--- `load::paint::paint_plane` meets its contract.
+-- `load::paint::paint_plane` meets its contract. Assumes nothing.
 use mathlib.Core.Path.{_≡_, refl, ap}
 use Prim.Native.Nat.{ℕ, _-_, _*_, _≤_}
 use native.Mathlib.Omega.{arith}

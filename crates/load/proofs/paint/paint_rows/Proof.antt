@@ -1,4 +1,4 @@
--- `load::paint::paint_rows` meets its contract.
+-- `load::paint::paint_rows` meets its contract. Assumes nothing.
 use denote.Ref.{now}
 use native.Mathlib.Nat.{add-zero}
 use borrow.Author.Needs.{needs}

@@ -1,4 +1,4 @@
--- `load::paint::paint_strip` meets its contract.
+-- `load::paint::paint_strip` meets its contract. Assumes nothing.
 use denote.Ref.{now}
 use native.Mathlib.Omega.{arith}
 use borrow.Author.Needs.{needs}

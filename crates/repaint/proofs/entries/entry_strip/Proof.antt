@@ -74,17 +74,17 @@ same-length-2 c = search needs
 
 returns : tie.Need-returns
 returns c =
-    let call = c .before .before .before .before .before .before .before .before .before in
-    let start = call .before .before .before .before .before .before .before .before .before .before in
+    let found = c .before .before .before .before .before .before .before .before .before .before in
+    let start = found .before .before .before .before .before .before .before .before .before in
     let e = start .args .e in
     let r = start .args .r in
     let ready = start .pre .0 .0 in
     let can = start .pre .0 .1 in
     let inside = start .pre .0 .2 in
-    let by-table = c .before .before .before .before .before .before .before .before .before .before .before .before .before .before .covers-strip .ensures in
-    let taken = c .before .before .before .before .before .before .before .before .before .before .before .before .before .if1 .taken in
+    let by-table = found .before .before .before .before .covers-strip .ensures in
+    let taken = found .before .before .before .if1 .taken in
     let on = entry-covers _ _ e can _ _ _ (ready .gathered) by-table ∙ taken in
-    let at = c .before .before .before .before .before .before .before .before .before .before .source-of .ensures in
+    let at = found .source-of .ensures in
     let here = covering _ _ e can _ at (ready .sound) _ on in
     let put = c .before .before .before .before .before .before .put-strip .ensures in (
       over-pixels _ r (ready .sound) _ inside e can _ at on (here .low) _ _ (put .1),
