@@ -1,7 +1,7 @@
 -- A block's tag, and which tags are containers (document 01, "Blocks").
 use Prim.Native.Nat.{ℕ, _+_}
 use mathlib.Core.List.{List}
-use mathlib.Core.Bool.{Bool, true, false, _&&_, _||_}
+use mathlib.Core.Bool.{Bool, _&&_, _||_}
 use lib.ListN.{getD}
 use lib.Dec.{leb, eqb}
 use Rattle.number.specs.Number.{be32}
@@ -39,6 +39,13 @@ tag-IMHD = 0x494D_4844
 
 abbrev pub tag-OBNA : ℕ
 tag-OBNA = 0x4F42_4E41
+
+-- the block of image state st, and of plane k
+abbrev pub tag-IM : ℕ → ℕ
+tag-IM st = tag-IM00 + st
+
+abbrev pub tag-ZP : ℕ → ℕ
+tag-ZP k = 0x5A50_3030 + k
 
 abbrev pub digit : ℕ → Bool
 digit b = leb 48 b && leb b 57

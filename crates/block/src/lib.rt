@@ -1,9 +1,15 @@
 // The block tree of a room (document 01, "Blocks").
+pub mod tags;
+
 ghost use mathlib.Core.Path.{_≡_};
 ghost use Prim.Native.Nat.{_+_, _≤_};
 ghost use lib.ListN.{length};
 ghost use Rattle.block.specs.Tag.{container, digit};
 ghost use Rattle.block.specs.Tree.{blockEnd, blockOk, listOk, wellFormed, findTag, countTag, nthTag, needTag, isAt, eachHas};
+use crate::tags::OBCD;
+use crate::tags::OBIM;
+use crate::tags::RMIM;
+use crate::tags::ROOM;
 use number::read_be32;
 
 // Where a block stands: its first byte, and the byte after its last.
@@ -11,14 +17,6 @@ pub enum Found {
     At(usize, usize),
     Missing,
 }
-
-const ROOM: usize = 0x524F_4F4D;
-
-const RMIM: usize = 0x524D_494D;
-
-const OBIM: usize = 0x4F42_494D;
-
-const OBCD: usize = 0x4F42_4344;
 
 fn is_digit(b: u8) -> bool
     ensures { λ r. ⌜ r ≡ digit b ⌝ }

@@ -13,7 +13,8 @@ use Rattle.block.specs.Tree.{blockEnd, walk, run, blockOk, wellFormed, tagged, 
 use Rattle.table.specs.Table.{offsetAt, offsetRight, offsetsRight, tableRight}
 use Rattle.table.specs.Body.{bodyEnd, bodyOf, stripAt, pixelAt}
 use Rattle.table.specs.Test.{stripTest, leftmost, blockTest}
-use Rattle.room.specs.Head.{backgroundIn, neededIn, objectsRight, sizesRight, roomOf, sized, headOf}
+use Rattle.room.specs.Head.{headedIn, backgroundIn, neededIn, objectsRight, sizesRight, roomOf, sized, headOf}
+use Rattle.room.specs.Picture.{imTest}
 use Rattle.room.specs.Test.{picturesTest, short, afterHead, roomTest, numberOf}
 use Rattle.load.specs.Load.{background, loadedPixels, loadTest, pixelsAfter}
 
@@ -41,5 +42,5 @@ shown =
     ++ (0x19 ∷ 0x1A ∷ 0x1B ∷ 0x1C ∷ 0x1D ∷ 0x1E ∷ 0x1F ∷ 0x20 ∷ 0x0C ∷ 0x0C ∷ 0x0C ∷ 0x0C ∷ 0x0C ∷ 0x0C ∷ 0x0C ∷ 0x7E ∷ [])
 
 pub loaded-room : (numberOf (loadTest room session lent []) ≡ 0) × (pixelsAfter room (loadTest room session lent []) lent ≡ shown ++ (0xEE ∷ []))
-unfolding lowBits bitsOf upd within boxed decode fiveFrom kindOf placed rawOf codedOf stripOf container blockEnd walk run blockOk wellFormed tagged payload eachHas offsetAt offsetRight offsetsRight tableRight bodyEnd bodyOf stripAt pixelAt stripTest leftmost blockTest backgroundIn neededIn objectsRight sizesRight roomOf sized headOf picturesTest short afterHead roomTest background loadedPixels
+unfolding lowBits bitsOf upd within boxed decode fiveFrom kindOf placed rawOf codedOf stripOf container blockEnd walk run blockOk wellFormed tagged payload eachHas offsetAt offsetRight offsetsRight tableRight bodyEnd bodyOf stripAt pixelAt stripTest leftmost blockTest headedIn backgroundIn neededIn objectsRight sizesRight roomOf sized headOf imTest picturesTest short afterHead roomTest background loadedPixels
 loaded-room = (refl, refl)

@@ -25,7 +25,7 @@ use Rattle.strip.proofs.PictureLaws.{getD-upTo, raw-short, raw-full, coded-none
 use Rattle.table.specs.Body.{stripAt, pixelsOf, pixelAt}
 use Rattle.table.specs.Test.{pictureTest, stripTest}
 use Rattle.table.specs.declared.Test.the-variants.{Passed}
-use Rattle.load.proofs.BlockLaws.{not-passed, block-strip}
+use Rattle.table.proofs.BlockLaws.{not-passed, block-strip}
 use Rattle.room.specs.Test.{strips}
 use Rattle.room.specs.declared.Room.{Room}
 use Rattle.room.specs.declared.Tested.the-variants.{Right}

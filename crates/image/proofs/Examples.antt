@@ -13,9 +13,10 @@ use Rattle.table.specs.Table.{offsetAt, offsetRight, offsetsRight, tableRight}
 use Rattle.table.specs.Body.{bodyEnd, bodyOf, stripAt, rowsAt, maskAt}
 use Rattle.table.specs.Test.{stripTest, leftmost, blockTest}
 use Rattle.table.specs.declared.Test.the-variants.{Passed, Refused}
+use Rattle.room.specs.Picture.{planeTest, imTest}
 use Rattle.objects.specs.Object.{objectBlock}
 use Rattle.image.specs.Image.{objectCount, objectId, hasId, firstOf, imageBlock, imageCount, homeX, homeY, imageWidth, imageHeight, stateBlock, drawable}
-use Rattle.image.specs.Fault.{planeTest, picturesTest, imageTest, imageFault}
+use Rattle.image.specs.Fault.{imageTest, imageFault}
 use Rattle.image.specs.Pixel.{imageStrip, imageColour, imageClear, imageBits}
 
 -- two objects, of which the first has two OBIMs of its id and the second has none
@@ -69,5 +70,5 @@ pixels = (refl, refl, refl, refl)
 
 -- the image passes with any count of planes; one without SMAP is 2: here the payload of the OBIM of id 9
 faults : (imageFault 0 room 1 1 ≡ Passed) × (imageFault 4 room 1 1 ≡ Passed) × (imageTest 1 1 1 room 16 40 ≡ Refused 2)
-unfolding imageFault imageTest picturesTest planeTest blockTest tableRight offsetsRight offsetRight leftmost stripTest stripAt bodyOf bodyEnd offsetAt stripOf codedOf placed kindOf fiveFrom decode lowBits bitsOf rowsAt rowsOf stateBlock imageWidth imageHeight objectId imageBlock objectBlock firstOf hasId tagged run walk blockEnd payload
+unfolding imageFault imageTest imTest planeTest blockTest tableRight offsetsRight offsetRight leftmost stripTest stripAt bodyOf bodyEnd offsetAt stripOf codedOf placed kindOf fiveFrom decode lowBits bitsOf rowsAt rowsOf stateBlock imageWidth imageHeight objectId imageBlock objectBlock firstOf hasId tagged run walk blockEnd payload
 faults = (refl, refl, refl)

@@ -16,8 +16,9 @@ use Rattle.block.specs.Tree.{tagged, findTag, nthTag}
 use Rattle.block.specs.declared.Found.{Found}
 use Rattle.block.specs.declared.Found.the-variants.{At, Missing}
 use Rattle.objects.specs.Object.{objectBlock}
-use Rattle.image.specs.Image.{objectCount, objectId, idAt, cdhdOf, imhdOf, hasId, headerHas, firstOf, imageBlock, homeX, homeY, imageWidth, imageHeight, imageCount}
-use Rattle.image.specs.Gathered.{startOf, endOf, rowFrom, rowWith, HasRow, Gathered, RowPut, Filled, Listed, RowOffered, Offered, Paired}
+use Rattle.image.specs.Image.{objectCount, objectId, imhdOf, hasId, headerHas, firstOf, imageBlock, homeX, homeY, imageWidth, imageHeight, imageCount}
+use Rattle.image.specs.Gathered.{startOf, endOf, rowFrom, rowWith, HasRow, Gathered, RowPut, Filled, RowOffered, Offered, Paired}
+use Rattle.image.specs.Rows.{headerRow, objectRow}
 use Rattle.image.proofs.WalkLaws.{walk-found, walk-none}
 use Rattle.image.proofs.ImageLaws.{object-nth, image-of}
 
@@ -73,14 +74,6 @@ module _ (s : List ℕ) (row : Found → List ℕ) (t₀ : List ℕ) where
   list-all t at n l none =
       let all : n ≡ objectCount s = drop-none (tagged tag-OBCD s 8 (length s)) n (sym (walk-none tag-OBCD s (length s) at none) ∙ l .rest) (l .few) in
       (all, record { same = l .same; new = λ o one h. l .rows o one (omega arith) })
-
--- the row of an object's block, with no image
-abbrev pub bareRow : List ℕ → Found → List ℕ
-bareRow s f = rowWith s (idAt s (cdhdOf s f)) Missing
-
-pub listed-of : (s t₀ t : List ℕ) → Filled s (bareRow s) t₀ t → Listed s t₀ t
-unfolding objectId
-listed-of s t₀ t f = record { same = f .same; new = f .new }
 
 -- ---- the images
 -- the first of two
@@ -194,7 +187,8 @@ module _ (s t t' : List ℕ) (objects b z : ℕ) where
 
 -- ---- the whole table
 pub gathered-of : (s t₀ t₁ t₂ : List ℕ) → length s ≤ 1048576 → objectCount s ≤ 128 → 1032 ≤ length t₀ → (objects : ℕ) → objects ≡ objectCount s
-    → Listed s t₀ t₁ → Paired s t₁ t₂ objects → Gathered s t₂
+    → Filled s (objectRow false s) t₀ t₁ → Paired s t₁ t₂ objects → Gathered s t₂
+unfolding objectId headerRow
 gathered-of s t₀ t₁ t₂ small few long objects all listed paired =
     record {
       small = small;

@@ -8,13 +8,13 @@ use lib.Dec.{leb}
 use lib.ListN.{getD, length}
 use borrow.Author.Tests.{ne-eqb, leb-true, not-true, not-false}
 use Rattle.number.proofs.BoolLaws.{and-left, and-right}
-use Rattle.block.specs.Tag.{tag-OBCD, tag-OBIM}
+use Rattle.block.specs.Tag.{tag-OBCD, tag-OBIM, tag-IM}
 use Rattle.block.specs.Tree.{tagged, nthTag, findTag, isAt, Inside}
 use Rattle.block.specs.declared.Found.{Found}
 use Rattle.block.specs.declared.Found.the-variants.{At, Missing}
 use Rattle.block.proofs.Laws.{nth-in}
 use Rattle.objects.specs.Object.{objectBlock}
-use Rattle.image.specs.Image.{objectCount, objectId, hasId, firstOf, imageBlock, tag-IM, stateIn, stateBlock, isObject, stateRight, imageCount, drawable}
+use Rattle.image.specs.Image.{objectCount, objectId, hasId, firstOf, imageBlock, stateIn, stateBlock, isObject, stateRight, imageCount, drawable}
 use Rattle.image.specs.Gathered.{startOf, endOf}
 use Rattle.image.proofs.WalkLaws.{walk-each}
 

@@ -1,14 +1,16 @@
 -- Laws of the table's rows: one row put cell by cell, and a row offered to one object after another.
 use mathlib.Core.Path.{_≡_, refl, _∙_}
-use mathlib.Core.List.{List}
-use mathlib.Core.Bool.{true, false, cond}
+use mathlib.Core.List.{List, [], _∷_}
+use mathlib.Core.Bool.{Bool, true, false, cond}
 use mathlib.Core.Logic.{by-cases}
 use Prim.Native.Nat.{ℕ, _+_, _*_, _≤_, _<_}
 use native.Mathlib.Decide.{ℕ-discrete}
 use native.Mathlib.Omega.{arith}
 use lib.ListN.{length, getD, set, length-set}
 use lib.Seq.{getD-set-same, getD-set-other}
+use Rattle.block.specs.declared.Found.the-variants.{At, Missing}
 use Rattle.image.specs.Gathered.{RowPut, RowOffered, takes}
+use Rattle.image.specs.Rows.{headerRow}
 
 module _ (t₀ row : List ℕ) (o : ℕ) where
   -- c cells of row o are put
@@ -72,3 +74,16 @@ module _ (t₀ row : List ℕ) where
 
   pub offer-all : (t : List ℕ) (o objects : ℕ) → objects < o → Offering t o → RowOffered t₀ t objects row
   offer-all t o objects past p = record { same = p .same; new = λ q c one h k. p .new q c one (omega arith) k }
+
+-- ---- the row of an object's header
+-- it looks at the header's start alone
+pub header-start : (boxes : Bool) (s : List ℕ) (p y z : ℕ) → headerRow boxes s (At p y) ≡ headerRow boxes s (At p z)
+unfolding headerRow
+header-start false s p y z = refl
+header-start true s p y z = refl
+
+-- with no header it is zero
+pub header-none : (boxes : Bool) (s : List ℕ) → 0 ∷ 0 ∷ 0 ∷ 0 ∷ 0 ∷ 0 ∷ 0 ∷ 0 ∷ [] ≡ headerRow boxes s Missing
+unfolding headerRow
+header-none false s = refl
+header-none true s = refl

@@ -3,33 +3,23 @@
 -- those of the room, 1 to N.
 use Prim.Native.Nat.{ℕ, _+_, _/_}
 use mathlib.Core.List.{List}
-use mathlib.Core.Bool.{false}
 use Rattle.block.specs.Tag.{tag-SMAP}
 use Rattle.block.specs.Tree.{findTag}
 use Rattle.block.specs.declared.Found.{Found}
 use Rattle.block.specs.declared.Found.the-variants.{At, Missing}
-use Rattle.table.specs.Test.{andThen, leftmost, blockTest}
 use Rattle.table.specs.declared.Test.{Test}
 use Rattle.table.specs.declared.Test.the-variants.{Refused}
-use Rattle.room.specs.Test.{tag-ZP, planeFound}
+use Rattle.room.specs.Picture.{imTest}
 use Rattle.image.specs.Image.{imageWidth, imageHeight, stateBlock}
 
--- where plane k stands in the payload [b, z), with its header
-abbrev pub planeIn : List ℕ → (b z k : ℕ) → Found
-planeIn s b z k = findTag (tag-ZP k) s b z
-
--- the test of plane k: a missing one passes
-unfoldable pub planeTest : (n h : ℕ) → List ℕ → (b z k : ℕ) → Test
-planeTest n h s b z k = planeFound n h s (planeIn s b z k)
-
 -- SMAP, where it was found, then planes 1 to N
-unfoldable pub picturesTest : (planes n h : ℕ) → List ℕ → (b z : ℕ) → Found → Test
-picturesTest planes n h s b z (At smap end) = andThen (blockTest false n h s smap end) (leftmost (planeTest n h s b z) 1 planes)
-picturesTest planes n h s b z Missing = Refused 2
+abbrev pub smapTest : (planes n h : ℕ) → List ℕ → (b z : ℕ) → Found → Test
+smapTest planes n h s b z (At smap end) = imTest planes n h s b z smap end
+smapTest planes n h s b z Missing = Refused 2
 
 -- the image in the payload [b, z)
 unfoldable pub imageTest : (planes n h : ℕ) → List ℕ → (b z : ℕ) → Test
-imageTest planes n h s b z = picturesTest planes n h s b z (findTag tag-SMAP s b z)
+imageTest planes n h s b z = smapTest planes n h s b z (findTag tag-SMAP s b z)
 
 -- the image in its state's block
 abbrev pub stateTest : (planes n h : ℕ) → List ℕ → Found → Test

@@ -55,11 +55,6 @@ pub record Filled (s : List ℕ) (row : Found → List ℕ) (t t' : List ℕ) : 
   pub same : length t' ≡ length t
   pub new : (o : ℕ) → 1 ≤ o → o ≤ objectCount s → (c : ℕ) → c < 8 → getD t' (8 * o + c) 0 ≡ getD (row (objectBlock s o)) c 0
 
--- every object's row is put, with no image
-pub record Listed (s t t' : List ℕ) : Type 0 where
-  pub same : length t' ≡ length t
-  pub new : (o : ℕ) → 1 ≤ o → o ≤ objectCount s → HasRow s t' o (objectId s o) Missing
-
 -- object o has the row's id, and no image yet
 abbrev pub takes : (row t : List ℕ) (o : ℕ) → Bool
 takes row t o = eqb (getD row 0 0) (getD t (8 * o) 0) && eqb (getD t (8 * o + 6) 0) 0

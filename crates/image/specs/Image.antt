@@ -6,7 +6,7 @@ use mathlib.Core.Bool.{Bool, false, _&&_, cond}
 use lib.ListN.{length}
 use lib.Dec.{leb, eqb}
 use Rattle.number.specs.Number.{le16}
-use Rattle.block.specs.Tag.{tag-OBCD, tag-OBIM, tag-CDHD, tag-IMHD, tag-IM00}
+use Rattle.block.specs.Tag.{tag-OBCD, tag-OBIM, tag-CDHD, tag-IMHD, tag-IM}
 use Rattle.block.specs.Tree.{tagged, countTag, findTag, needTag, isAt}
 use Rattle.block.specs.declared.Found.{Found}
 use Rattle.block.specs.declared.Found.the-variants.{At, Missing}
@@ -72,10 +72,6 @@ imageWidth s o = field s 12 (imhdOf s (imageBlock s o))
 
 unfoldable pub imageHeight : List ℕ → ℕ → ℕ
 imageHeight s o = field s 14 (imhdOf s (imageBlock s o))
-
--- IM0 and the digit st
-abbrev pub tag-IM : ℕ → ℕ
-tag-IM st = tag-IM00 + st
 
 -- the first block of the state in an OBIM
 abbrev pub stateIn : List ℕ → ℕ → Found → Found

@@ -11,9 +11,9 @@ use Rattle.block.specs.declared.Found.{Found}
 use Rattle.block.specs.declared.Found.the-variants.{At, Missing}
 use Rattle.strip.specs.Picture.{Picture, refusal, picture}
 use Rattle.table.specs.Body.{stripAt, pixelsOf}
+use Rattle.room.specs.Picture.{planeIn}
 use Rattle.load.specs.Load.{foundMask}
 use Rattle.image.specs.Image.{imageWidth, imageHeight, stateBlock}
-use Rattle.image.specs.Fault.{planeIn}
 
 -- an image has IMHD's width / 8 strips
 abbrev pub imageStrips : List ℕ → ℕ → ℕ

@@ -3,7 +3,8 @@ ghost use mathlib.Core.Path.{_≡_};
 ghost use Prim.Native.Nat.{_+_, _≤_};
 ghost use lib.ListN.{length};
 ghost use Rattle.image.specs.Image.{objectCount};
-ghost use Rattle.image.specs.Gathered.{Gathered, Listed, Offered, Paired};
+ghost use Rattle.image.specs.Gathered.{Gathered, Filled, Offered, Paired};
+ghost use Rattle.image.specs.Rows.{objectRow};
 use crate::row::image_row;
 use crate::row::object_row;
 use crate::row::offer_row;
@@ -11,17 +12,15 @@ use crate::row::put_row;
 use block::Found;
 use block::find_tag;
 use block::need_tag;
+use block::tags::IMHD;
+use block::tags::OBCD;
+use block::tags::OBIM;
 
-const OBCD: usize = 0x4F42_4344;
-
-const OBIM: usize = 0x4F42_494D;
-
-const IMHD: usize = 0x494D_4844;
-
-// Puts the rows of the objects, with no image, and counts them.
-fn list_objects(room: &[u8], table: &mut [u32]) -> usize
+// Puts the rows of the objects, with no image, or with their boxes; and counts them.
+pub fn list_objects(room: &[u8], boxes: bool, table: &mut [u32]) -> usize
     requires { ⌜ (objectCount (now room) ≤ 128) × (1032 ≤ length (now table)) ⌝ }
-    ensures { λ n. ⌜ (n ≡ objectCount (now (room .entry))) × Listed (now (room .entry)) (now (table .entry)) (now (table .exit)) ⌝ }
+    ensures { λ n. ⌜ n ≡ objectCount (now (room .entry)) ⌝ }
+    ensures { λ _. ⌜ Filled (now (room .entry)) (objectRow boxes (now (room .entry))) (now (table .entry)) (now (table .exit)) ⌝ }
 {
     let end = room.len();
     let mut at: usize = 8;
@@ -29,7 +28,7 @@ fn list_objects(room: &[u8], table: &mut [u32]) -> usize
     loop {
         match find_tag(room, at, end, OBCD) {
             Found::At(b, z) => {
-                let row = object_row(room, b, z);
+                let row = object_row(room, boxes, b, z);
                 n += 1;
                 put_row(table, n, &row);
                 at = z;
@@ -81,6 +80,6 @@ pub fn gather(room: &[u8], table: &mut [u32])
     requires { ⌜ (length (now room) ≤ 1048576) × (objectCount (now room) ≤ 128) × (1032 ≤ length (now table)) ⌝ }
     ensures { λ _. ⌜ Gathered (now (room .entry)) (now (table .exit)) ⌝ }
 {
-    let objects = list_objects(room, table);
+    let objects = list_objects(room, false, table);
     pair_images(room, table, objects);
 }

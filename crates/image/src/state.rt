@@ -5,8 +5,7 @@ ghost use Rattle.image.specs.Image.{objectCount, stateRight, stateBlock,
 ghost use Rattle.image.specs.Gathered.{Gathered};
 use block::Found;
 use block::find_tag;
-
-const IM00: usize = 0x494D_3030;
+use block::tags::IM00;
 
 // The block of the image of object o in state st.
 pub fn state_block(room: &[u8], table: &[u32], o: usize, st: usize) -> Found

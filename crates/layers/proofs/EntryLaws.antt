@@ -16,7 +16,7 @@ use Rattle.block.proofs.Laws.{nth-at}
 use Rattle.grid.specs.Grid.{pick}
 use Rattle.table.specs.Body.{stripAt, pixelsOf}
 use Rattle.table.specs.declared.Test.the-variants.{Passed}
-use Rattle.load.proofs.BlockLaws.{not-passed}
+use Rattle.table.proofs.BlockLaws.{not-passed}
 use Rattle.room.specs.Head.{Sound}
 use Rattle.room.specs.Test.{strips}
 use Rattle.room.specs.declared.Room.{Room}

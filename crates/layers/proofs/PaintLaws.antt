@@ -15,7 +15,7 @@ use Rattle.grid.proofs.Box.{within-yes}
 use Rattle.table.specs.Body.{pixelAt}
 use Rattle.load.specs.Load.{background, mask}
 use Rattle.room.specs.Head.{Sound}
-use Rattle.room.specs.Test.{strips, planeIn}
+use Rattle.room.specs.Test.{strips}
 use Rattle.room.specs.declared.Room.{Room}
 use Rattle.image.specs.Pixel.{imageClear, imageColour}
 use Rattle.scene.specs.Painting.{covers, reaches, opaque, overPixel, overMask, pixelLayout, maskLayout, rebuiltBytes}
@@ -83,7 +83,7 @@ module _ (s : List ℕ) (r : Room) (sound : Sound s r) (k : ℕ) (within-room : 
   pub fresh-masks : (m : Source) → m .payload ≡ r .image → m .«payload_end» ≡ r .«image_end» → m .strips ≡ strips r → m .height ≡ r .height → (l px : List ℕ)
       → px ≡ upd (planesByte s m k n (r .height) (r .planes) k 0 true) l
       → px ≡ rebuiltBytes (maskLayout (decoded s r)) [] (λ t. eqb t k) l
-  unfolding maskLayout decoded rowsByte mask planeIn
+  unfolding maskLayout decoded rowsByte mask
   fresh-masks m start end wide high l px so =
       fresh-none (maskLayout (decoded s r)) k l (rowsByte s m k n (r .height) k 0 true) px
       (λ i o lt e.

@@ -21,15 +21,15 @@ use Rattle.table.specs.Body.{rowsAt, pixelsOf}
 use Rattle.table.specs.Test.{pictureTest, stripTest, blockTest}
 use Rattle.table.specs.declared.Test.the-variants.{Passed}
 use Rattle.table.proofs.TestLaws.{refused-stops}
-use Rattle.load.proofs.BlockLaws.{not-passed, block-table, block-strip}
+use Rattle.table.proofs.BlockLaws.{not-passed, block-table, block-strip}
 use Rattle.load.proofs.CellLaws.{at-size, drawn-pixels, read-row}
 use Rattle.room.specs.declared.Room.{Room}
 use Rattle.image.specs.Image.{objectCount, stateBlock}
-use Rattle.image.specs.Fault.{planeIn}
+use Rattle.room.specs.Picture.{planeIn}
 use Rattle.image.specs.Pixel.{clearCode, smapOf}
 use Rattle.image.specs.Gathered.{Gathered}
 use Rattle.image.proofs.GatherLaws.{gathered-width}
-use Rattle.image.proofs.FaultLaws.{image-found-passes}
+use Rattle.room.proofs.PictureLaws.{found-passes}
 use Rattle.scene.specs.Painting.{covers}
 use Rattle.scene.specs.declared.Entry.{Entry}
 use Rattle.layers.specs.declared.Source.{Source}
@@ -74,7 +74,7 @@ module _ (s : List ℕ) (m : Source) (j : ℕ) (ok : Readable s m) (fits : j < m
 module _ (s : List ℕ) (m : Source) (p j : ℕ) (fits : j < m .strips) (passes : PlanePasses s m p) where
   module _ (b z : ℕ) (at : At b z ≡ planeIn s (m .payload) (m .«payload_end») p) where
     plane-block : blockTest true (m .strips) (m .height) s b z ≡ Passed
-    plane-block = image-found-passes (m .strips) (m .height) s (m .payload) (m .«payload_end») p b z at passes
+    plane-block = found-passes (m .strips) (m .height) s (m .payload) (m .«payload_end») p b z at passes
 
     pub plane-table : tableRight true (m .strips) s b z ≡ true
     plane-table = block-table _ _ _ _ _ _ plane-block

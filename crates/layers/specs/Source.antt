@@ -15,9 +15,9 @@ use Rattle.strip.specs.Picture.{Picture}
 use Rattle.table.specs.Body.{stripAt, pixelsOf}
 use Rattle.table.specs.Test.{blockTest}
 use Rattle.table.specs.declared.Test.the-variants.{Passed}
+use Rattle.room.specs.Picture.{planeIn, planeTest}
 use Rattle.load.specs.Load.{foundMask}
 use Rattle.image.specs.Image.{imageHeight, stateBlock}
-use Rattle.image.specs.Fault.{planeIn, planeTest}
 use Rattle.image.specs.Pixel.{imageStrips, clearCode}
 use Rattle.layers.specs.declared.Source.{Source}
 use Rattle.layers.specs.Layer.{stripByte, noneClear}

@@ -15,10 +15,9 @@ ghost use Rattle.layers.specs.Source.{Stands};
 use crate::Source;
 use block::Found;
 use block::find_tag;
+use block::tags::SMAP;
 use image::state::state_block;
 use scene::Entry;
-
-const SMAP: usize = 0x534D_4150;
 
 // Entry i of a shown list.
 pub fn entry_at(shown: &[u32], i: usize) -> Entry

@@ -6,9 +6,7 @@ ghost use Rattle.layers.specs.Layer.{noneClear};
 ghost use Rattle.layers.specs.Source.{Readable, PlanePasses, maskIn};
 use crate::Source;
 use block::Found;
-use block::find_tag;
-
-const ZP00: usize = 0x5A50_3030;
+use room::picture::plane_in;
 
 // Whether none of the first n pixels of a strip is transparent.
 pub fn none_clear(values: &[u8], n: usize, clear: bool) -> bool
@@ -32,7 +30,7 @@ pub fn plane_rows(room: &[u8], m: Source, p: usize, j: usize, out: &mut [u8])
     ensures { λ _. ⌜ ((y : ℕ) → y < m .height → getD (now (out .exit)) y 0 ≡ maskIn (now (room .entry)) m p j y) ⌝ }
 {
     let height = m.height;
-    match find_tag(room, m.payload, m.payload_end, ZP00 + p) {
+    match plane_in(room, m.payload, m.payload_end, p) {
         Found::At(b, z) => {
             table::read_rows(room, m.strips, height, b, z, j, out);
         }

@@ -4,6 +4,7 @@ ghost use Prim.Native.Nat.{_+_, _≤_};
 ghost use lib.ListN.{length};
 use block::Found;
 use block::find_tag;
+use block::tags::OBCD;
 use number::ahead_of;
 use number::behind_of;
 use objects::Cdhd;
@@ -14,8 +15,6 @@ use room::Room;
 use room::Tested;
 use room::test::nothing_lent;
 use room::test::test_room;
-
-const OBCD: usize = 0x4F42_4344;
 
 fn text(bytes: &[u8]) {
     io::write_all(1, bytes);

@@ -19,7 +19,7 @@ use Rattle.strip.proofs.PictureLaws.{length-upTo}
 use Rattle.table.specs.Body.{stripAt, rowsAt, bodyOf, pixelsOf, rowValues, pixelAt, maskAt}
 use Rattle.table.specs.Test.{pictureTest, rowsTest, stripTest}
 use Rattle.table.specs.declared.Test.the-variants.{Passed}
-use Rattle.load.proofs.BlockLaws.{not-passed}
+use Rattle.table.proofs.BlockLaws.{not-passed}
 
 -- a picture of h rows has 8h pixels
 abbrev pub Sized : ℕ → Picture → Type 0

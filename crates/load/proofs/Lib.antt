@@ -1,4 +1,3 @@
-pub mod BlockLaws
 pub mod CellLaws
 pub mod BoxLaws
 pub mod LoadLaws

@@ -1,27 +1,27 @@
 -- Laws of the load: what a room that passes says of its pictures, and one plane more.
 use mathlib.Core.Path.{_≡_, refl, sym, ap, ap₂, _∙_}
-use mathlib.Core.Bool.{true, false}
+use mathlib.Core.Bool.{false}
 use mathlib.Core.List.{List, _++_}
 use Prim.Native.Nat.{ℕ, _+_, _-_, _*_, _/_, _%_, _≤_}
 use native.Mathlib.Nat.{add-mul, one-mul}
 use native.Mathlib.Omega.{arith}
 use lib.Arith.{digits-div, digits-mod}
 use lib.ListN.{length, take, drop, replicate}
-use Rattle.block.specs.declared.Found.the-variants.{At}
 use Rattle.grid.specs.Grid.{upd, boxed}
 use Rattle.grid.proofs.Box.{box-below}
 use Rattle.strip.proofs.PictureLaws.{over-of}
-use Rattle.table.specs.Test.{blockTest, leftmost}
+use Rattle.table.specs.Test.{blockTest}
 use Rattle.table.specs.declared.Test.the-variants.{Passed}
 use Rattle.room.specs.Head.{Sound}
-use Rattle.room.specs.Test.{strips, planeIn, planeTest, picturesTest, roomTest, withSurfaces}
+use Rattle.room.specs.Picture.{planeTest}
+use Rattle.room.specs.Test.{strips, picturesTest, roomTest, withSurfaces}
 use Rattle.room.specs.declared.Lent.{Lent}
+use Rattle.room.proofs.PictureLaws as picture
 use Rattle.room.specs.declared.Room.{Room}
 use Rattle.room.specs.declared.Tested.{Tested}
 use Rattle.room.specs.declared.Tested.the-variants.{Right}
 use Rattle.room.proofs.TestLaws.{test-passes, surfaces-long}
 use Rattle.load.specs.Load.{sessionSize, mask, loadedPlane, loadTest, emptied}
-use Rattle.load.proofs.BlockLaws.{both-pass, leftmost-each}
 
 -- an accepted room, and buffers that are long enough
 pub record Accepted (s session pixels masks : List ℕ) (r : Room) : Type 0 where
@@ -46,19 +46,11 @@ module _ (s session pixels masks : List ℕ) (lent : Lent) (t : Tested)
 module _ (s : List ℕ) (r : Room) (passed : picturesTest s r ≡ Passed) where
   pub background-passes : blockTest false (strips r) (r .height) s (r .smap) (r .«smap_end») ≡ Passed
   unfolding picturesTest
-  background-passes = both-pass (blockTest false (strips r) (r .height) s (r .smap) (r .«smap_end»)) (leftmost (planeTest s r) 1 (r .planes)) passed .0
+  background-passes = picture.smap-passes (r .planes) (strips r) (r .height) s (r .image) (r .«image_end») (r .smap) (r .«smap_end») passed
 
-  pub plane-passes : (k : ℕ) → 1 ≤ k → k ≤ r .planes → planeTest s r k ≡ Passed
+  pub plane-passes : (k : ℕ) → 1 ≤ k → k ≤ r .planes → planeTest (strips r) (r .height) s (r .image) (r .«image_end») k ≡ Passed
   unfolding picturesTest
-  plane-passes k one le =
-      leftmost-each (planeTest s r) (r .planes) 1
-      (both-pass (blockTest false (strips r) (r .height) s (r .smap) (r .«smap_end»)) (leftmost (planeTest s r) 1 (r .planes)) passed .1) k one (omega arith)
-
--- the test of a plane that is there
-pub found-passes : (s : List ℕ) (r : Room) (k b z : ℕ) → At b z ≡ planeIn s r k → planeTest s r k ≡ Passed
-    → blockTest true (strips r) (r .height) s b z ≡ Passed
-unfolding planeTest
-found-passes s r k b z at passed = rw (← at) at passed
+  plane-passes = picture.plane-passes (r .planes) (strips r) (r .height) s (r .image) (r .«image_end») (r .smap) (r .«smap_end») passed
 
 -- the rows of k - 1 planes, and those of plane k below them
 abbrev pub rowOf : List ℕ → Room → ℕ → ℕ → ℕ → ℕ

@@ -7,7 +7,8 @@ use Rattle.block.specs.declared.Found.the-variants.{At, Missing}
 use Rattle.grid.specs.Grid.{upd, boxed}
 use Rattle.strip.specs.Picture.{over}
 use Rattle.table.specs.Body.{pixelAt, maskAt}
-use Rattle.room.specs.Test.{strips, planeIn, roomTest, withSurfaces}
+use Rattle.room.specs.Picture.{planeIn}
+use Rattle.room.specs.Test.{strips, roomTest, withSurfaces}
 use Rattle.room.specs.declared.Room.{Room}
 use Rattle.room.specs.declared.Tested.{Tested}
 use Rattle.room.specs.declared.Tested.the-variants.{Right, Refused}
@@ -26,7 +27,7 @@ foundMask n h s (At b z) k y = maskAt n h s b z k y
 foundMask n h s Missing k y = 0
 
 unfoldable pub mask : List ℕ → Room → (plane k y : ℕ) → ℕ
-mask s r plane k y = foundMask (strips r) (r .height) s (planeIn s r plane) k y
+mask s r plane k y = foundMask (strips r) (r .height) s (planeIn s (r .image) (r .«image_end») plane) k y
 
 -- pixel (x, y) stands at y × W + x
 unfoldable pub loadedPixels : List ℕ → Room → List ℕ → List ℕ

@@ -6,7 +6,8 @@ ghost use Prim.Native.Nat.{_*_, _≤_};
 ghost use lib.ListN.{length};
 ghost use Rattle.table.specs.declared.Test.the-variants.{Passed};
 ghost use Rattle.room.specs.Head.{Sound};
-ghost use Rattle.room.specs.Test.{strips, planeTest, picturesTest, numberOf};
+ghost use Rattle.room.specs.Picture.{planeTest};
+ghost use Rattle.room.specs.Test.{strips, picturesTest, numberOf};
 ghost use Rattle.load.specs.Load.{loadedPixels, loadedPlane, loadedMasks, emptied, loadTest, pixelsAfter, masksAfter, sessionAfter};
 use crate::paint::clear_plane;
 use crate::paint::paint_background;
@@ -14,7 +15,7 @@ use crate::paint::paint_plane;
 use block::Found;
 use room::Room;
 use room::Tested;
-use room::test::plane_in;
+use room::picture::plane_in;
 use room::test::surfaces_lent;
 use room::test::test_room;
 
@@ -40,12 +41,12 @@ fn load_pixels(room: &[u8], r: Room, pixels: &mut [u8])
 // Paints plane k, or clears it where it is missing.
 fn load_plane(room: &[u8], r: Room, k: usize, masks: &mut [u8])
     requires { ⌜ Sound (now room) r × (1 ≤ k) × (k ≤ r .planes) ⌝ }
-    requires { ⌜ planeTest (now room) r k ≡ Passed ⌝ }
+    requires { ⌜ planeTest (strips r) (r .height) (now room) (r .image) (r .«image_end») k ≡ Passed ⌝ }
     requires { ⌜ strips r * (r .planes * r .height) ≤ length (now masks) ⌝ }
     ensures { λ _. ⌜ now (masks .exit) ≡ loadedPlane (now (room .entry)) r k (now (masks .entry)) ⌝ }
 {
     let strips = r.width / 8;
-    match plane_in(room, r, k) {
+    match plane_in(room, r.image, r.image_end, k) {
         Found::At(b, z) => {
             paint_plane(room, strips, r.height, b, z, r.planes, k, masks);
         }

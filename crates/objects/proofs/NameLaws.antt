@@ -2,23 +2,22 @@
 use mathlib.Core.Path.{_≡_, refl, subst⁻¹}
 use mathlib.Core.List.{List}
 use mathlib.Core.Bool.{Bool, true, false, cond}
-use Prim.Native.Nat.{ℕ, zero, suc, _+_, _-_, _≤_, _<_}
+use Prim.Native.Nat.{ℕ, zero, suc, _+_, _-_, _*_, _≤_, _<_}
 use native.Mathlib.Omega.{arith}
 use lib.Dec.{eqb}
-use lib.ListN.{getD, length}
+use lib.ListN.{getD, length, take, drop}
 use borrow.Author.Tests.{ne-eqb, eq-eqb}
 use Rattle.block.specs.Tag.{tag-OBNA}
-use Rattle.block.specs.Tree.{Inside, needTag}
-use Rattle.room.specs.Test.{roomTest, nothing}
-use Rattle.objects.specs.Object.{objectBlock}
-use Rattle.objects.specs.Name.{nulFrom, beforeNul, nameIn, nameAfter, namePlace}
+use Rattle.block.specs.Tree.{needTag}
+use Rattle.room.specs.Test.{nothing}
+use Rattle.objects.specs.Object.{chosenBlock}
+use Rattle.objects.specs.Name.{nulFrom, beforeNul, nameIn, nameAfter, namePlace, partAt, partOf, placeWord}
 use Rattle.block.specs.declared.Found.{Found}
 use Rattle.block.specs.declared.Found.the-variants.{At, Missing}
-use Rattle.room.specs.declared.Tested.{Tested}
-use Rattle.room.specs.declared.Tested.the-variants.{Right, Refused}
+use Rattle.objects.specs.declared.Chosen.{Chosen}
+use Rattle.objects.specs.declared.Chosen.the-variants.{Block, Refused}
 use Rattle.block.proofs.Laws.{Held, need-in}
-use Rattle.objects.proofs.ObjectLaws.{object-in}
-use Rattle.room.proofs.TestLaws.{test-passes}
+use Rattle.objects.proofs.ObjectLaws.{ChosenIn, chosen-in}
 
 module _ (s : List ℕ) where
   pub nul-end : (n p : ℕ) → n ≡ 0 → p ≡ nulFrom n s p
@@ -45,34 +44,31 @@ module _ (s : List ℕ) where
       go true h i = rw (← nul-suc (suc n) n p true refl h) (omega arith)
       go false h i = rw (← nul-suc (suc n) n p false refl h) (omega arith)
 
-  -- a part of the room
-  abbrev Part : Found → Type 0
-  Part (At a z) = (a ≤ z) × (z ≤ length s)
-  Part Missing = Unit {0}
-
-  part-nul : (a e : ℕ) (f : Found) → e ≤ length s → Held 0 a e f → Part (beforeNul s f)
-  unfolding beforeNul
-  part-nul a e (At p z) l i = omega (arith, nul-in (z - p) p)
-  part-nul a e Missing l i = tt
-
-  part-in : (f : Found) → Inside 8 (length s) f → Part (nameIn s f)
-  unfolding nameIn
-  part-in (At b z) i = part-nul (b + 8) z (needTag tag-OBNA 0 s (b + 8) z) (omega arith) (need-in tag-OBNA 0 s (b + 8) z)
-  part-in Missing i = tt
-
   -- a name that is found lies in a room that is not over the size
   abbrev Named : Found → Type 0
   Named (At a z) = (a ≤ z) × (z ≤ length s) × (length s ≤ 1048576)
   Named Missing = Unit {0}
 
-  named : (f : Found) → Part f → length s ≤ 1048576 → Named f
-  named (At a z) i small = (i .0, i .1, small)
-  named Missing i small = tt
+  named-nul : (a e : ℕ) (f : Found) → e ≤ length s → length s ≤ 1048576 → Held 0 a e f → Named (beforeNul s f)
+  unfolding beforeNul
+  named-nul a e (At p z) l small i = omega (arith, nul-in (z - p) p)
+  named-nul a e Missing l small i = tt
 
-  named-after : (t : Tested) → t ≡ roomTest nothing s → (k : ℕ) → Named (nameAfter s k t)
-  named-after (Right r) e k = named (nameIn s (objectBlock s k)) (part-in (objectBlock s k) (object-in s k)) (test-passes nothing s r e .sound .small)
-  named-after (Refused n) e k = tt
+  named-after : (f : Chosen) → ChosenIn s nothing f → Named (nameAfter s f)
+  unfolding nameIn
+  named-after (Block b z) i =
+      named-nul (b + 8) z (needTag tag-OBNA 0 s (b + 8) z) (i .2) (i .3 .1 .sound .small) (need-in tag-OBNA 0 s (b + 8) z)
+  named-after (Refused n) i = tt
 
   pub name-at : (k a z : ℕ) → At a z ≡ namePlace s k → (a ≤ z) × (z ≤ length s) × (length s ≤ 1048576)
   unfolding namePlace
-  name-at k a z h = subst⁻¹ Named h (named-after (roomTest nothing s) refl k)
+  name-at k a z h = subst⁻¹ Named h (named-after (chosenBlock nothing s k) (chosen-in s nothing k))
+
+  -- the part, as the place tells it
+  pub part-bytes : (f : Found) → take (partAt f .count) (drop (partAt f .start) s) ≡ partOf s f
+  part-bytes (At a z) = refl
+  part-bytes Missing = refl
+
+pub part-word : (f : Found) → partAt f .start + partAt f .count * 4294967296 ≡ placeWord f
+part-word (At a z) = refl
+part-word Missing = refl

@@ -9,10 +9,11 @@ use Rattle.block.specs.Tag.{tag-OBNA}
 use Rattle.block.specs.Tree.{needTag}
 use Rattle.block.specs.declared.Found.{Found}
 use Rattle.block.specs.declared.Found.the-variants.{At, Missing}
-use Rattle.room.specs.Test.{roomTest, nothing}
-use Rattle.objects.specs.Object.{objectBlock}
-use Rattle.room.specs.declared.Tested.{Tested}
-use Rattle.room.specs.declared.Tested.the-variants.{Right, Refused}
+use Rattle.room.specs.Test.{nothing}
+use Rattle.objects.specs.Object.{chosenBlock}
+use Rattle.objects.specs.declared.Part.{Part}
+use Rattle.objects.specs.declared.Chosen.{Chosen}
+use Rattle.objects.specs.declared.Chosen.the-variants.{Block, Refused}
 
 -- the first of n bytes from p on that is 0, or the end of those bytes
 unfoldable pub nulFrom : ℕ → List ℕ → ℕ → ℕ
@@ -25,17 +26,21 @@ beforeNul s (At p z) = At p (nulFrom (z - p) s p)
 beforeNul s Missing = Missing
 
 -- of an OBCD, where its name stands
-unfoldable pub nameIn : List ℕ → Found → Found
-nameIn s (At b z) = beforeNul s (needTag tag-OBNA 0 s (b + 8) z)
-nameIn s Missing = Missing
+unfoldable pub nameIn : List ℕ → (b z : ℕ) → Found
+nameIn s b z = beforeNul s (needTag tag-OBNA 0 s (b + 8) z)
 
 -- where the name of object k stands; Missing where the call is refused or the object has no OBNA
-abbrev pub nameAfter : List ℕ → ℕ → Tested → Found
-nameAfter s k (Right r) = nameIn s (objectBlock s k)
-nameAfter s k (Refused n) = Missing
+abbrev pub nameAfter : List ℕ → Chosen → Found
+nameAfter s (Block b z) = nameIn s b z
+nameAfter s (Refused n) = Missing
 
 unfoldable pub namePlace : List ℕ → ℕ → Found
-namePlace s k = nameAfter s k (roomTest nothing s)
+namePlace s k = nameAfter s (chosenBlock nothing s k)
+
+-- the part of the room; empty where there is no name
+abbrev pub partAt : Found → Part
+partAt (At a z) = record { start = a; count = z - a }
+partAt Missing = record { start = 0; count = 0 }
 
 -- the name's bytes
 abbrev pub partOf : List ℕ → Found → List ℕ
@@ -51,13 +56,9 @@ placeWord (At a z) = a + (z - a) * 4294967296
 placeWord Missing = 0
 
 -- the number of the call: the room's refusals, then 11 where there is no such object, else 0
-abbrev pub blockNumber : Found → ℕ
-blockNumber (At b z) = 0
-blockNumber Missing = 11
-
-abbrev pub nameNumberAfter : List ℕ → ℕ → Tested → ℕ
-nameNumberAfter s k (Right r) = blockNumber (objectBlock s k)
-nameNumberAfter s k (Refused n) = n
+abbrev pub chosenNumber : Chosen → ℕ
+chosenNumber (Block b z) = 0
+chosenNumber (Refused n) = n
 
 unfoldable pub nameNumber : List ℕ → ℕ → ℕ
-nameNumber s k = nameNumberAfter s k (roomTest nothing s)
+nameNumber s k = chosenNumber (chosenBlock nothing s k)

@@ -15,6 +15,9 @@ use Rattle.objects.specs.declared.Cdhd.{Cdhd}
 use Rattle.room.specs.declared.Lent.{Lent}
 use Rattle.room.specs.declared.Tested.{Tested}
 use Rattle.room.specs.declared.Tested.the-variants as tested
+use Rattle.objects.specs.declared.Chosen.{Chosen}
+use Rattle.objects.specs.declared.Chosen.the-variants.{Block}
+use Rattle.objects.specs.declared.Chosen.the-variants as chosen
 use Rattle.objects.specs.declared.Place.{Place}
 use Rattle.objects.specs.declared.Place.the-variants.{At, Refused}
 
@@ -39,21 +42,32 @@ abbrev pub payloadAt : Found → Place
 payloadAt (found.At p z) = At p
 payloadAt found.Missing = Refused 2
 
-abbrev pub cdhdIn : List ℕ → Found → Place
-cdhdIn s (found.At b z) = payloadAt (needTag tag-CDHD 13 s (b + 8) z)
-cdhdIn s found.Missing = Refused 11
+abbrev pub cdhdIn : List ℕ → (b z : ℕ) → Place
+cdhdIn s b z = payloadAt (needTag tag-CDHD 13 s (b + 8) z)
 
 -- the block of object k, counted from 1
 unfoldable pub objectBlock : List ℕ → ℕ → Found
 objectBlock s k = cond (eqb k 0) found.Missing (nthTag tag-OBCD s 8 (length s) (k - 1))
 
--- the room's refusals, then 11 where there is no such object
-abbrev pub placeAfter : List ℕ → ℕ → Tested → Place
-placeAfter s k (tested.Right r) = cdhdIn s (objectBlock s k)
-placeAfter s k (tested.Refused n) = Refused n
+-- the block of the object that a call names: the room's refusals, then 11 where there is no such object
+abbrev pub orAbsent : Found → Chosen
+orAbsent (found.At b z) = Block b z
+orAbsent found.Missing = chosen.Refused 11
+
+abbrev pub chosenAfter : List ℕ → ℕ → Tested → Chosen
+chosenAfter s k (tested.Right r) = orAbsent (objectBlock s k)
+chosenAfter s k (tested.Refused n) = chosen.Refused n
+
+unfoldable pub chosenBlock : Lent → List ℕ → ℕ → Chosen
+chosenBlock lent s k = chosenAfter s k (roomTest lent s)
+
+-- where its header stands
+abbrev pub headerIn : List ℕ → Chosen → Place
+headerIn s (Block b z) = cdhdIn s b z
+headerIn s (chosen.Refused n) = Refused n
 
 unfoldable pub headerPlace : Lent → List ℕ → ℕ → Place
-headerPlace lent s k = placeAfter s k (roomTest lent s)
+headerPlace lent s k = headerIn s (chosenBlock lent s k)
 
 -- the header as 16 bytes (docs/LAYOUTS.md): the 13 of CDHD, then zeros
 unfoldable pub headerBytes : List ℕ → ℕ → List ℕ

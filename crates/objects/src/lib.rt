@@ -18,6 +18,18 @@ pub struct Cdhd {
     pub direction: usize,
 }
 
+// A part of the room: its first byte, and how many bytes it has.
+pub struct Part {
+    pub start: usize,
+    pub count: usize,
+}
+
+// The OBCD of the object that a call names, or the number of the refusal.
+pub enum Chosen {
+    Block(usize, usize),
+    Refused(u8),
+}
+
 // Where an object's CDHD payload stands, or the number of the refusal.
 pub enum Place {
     At(usize),

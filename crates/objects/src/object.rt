@@ -2,13 +2,16 @@
 ghost use mathlib.Core.Path.{_≡_};
 ghost use Prim.Native.Nat.{_+_, _≤_};
 ghost use lib.ListN.{length};
-ghost use Rattle.objects.specs.Object.{cdhdAt, cdhdIn, objectBlock, headerPlace, headerBytes, placeNumber, headerCall, headerAfter};
+ghost use Rattle.objects.specs.Object.{cdhdAt, cdhdIn, objectBlock, chosenBlock, headerPlace, headerBytes, placeNumber, headerCall, headerAfter};
 use crate::Cdhd;
+use crate::Chosen;
 use crate::Place;
 use crate::record::put_front;
 use block::Found;
 use block::need_tag;
 use block::nth_tag;
+use block::tags::CDHD;
+use block::tags::OBCD;
 use number::read_le16;
 use number::read_sle16;
 use number::wide;
@@ -16,10 +19,6 @@ use room::Lent;
 use room::Tested;
 use room::test::fixed_lent;
 use room::test::test_room;
-
-const OBCD: usize = 0x4F42_4344;
-
-const CDHD: usize = 0x4344_4844;
 
 // What the CDHD whose payload is at `p` says.
 pub fn read_cdhd(s: &[u8], p: usize) -> Cdhd
@@ -63,7 +62,7 @@ pub fn object_block(s: &[u8], k: usize) -> Found
 // Where the CDHD payload of the OBCD in [b, z) stands.
 pub fn cdhd_in(s: &[u8], b: usize, z: usize) -> Place
     requires { ⌜ (b + 8 ≤ z) × (z ≤ length (now s)) ⌝ }
-    ensures { λ r. ⌜ r ≡ cdhdIn (now (s .entry)) (Found.At b z) ⌝ }
+    ensures { λ r. ⌜ r ≡ cdhdIn (now (s .entry)) b z ⌝ }
 {
     match need_tag(s, b + 8, z, CDHD, 13) {
         Found::At(p, _) => Place::At(p),
@@ -71,16 +70,26 @@ pub fn cdhd_in(s: &[u8], b: usize, z: usize) -> Place
     }
 }
 
+// The block of object `k`, in a room that passes its test.
+pub fn chosen_block(s: &[u8], lent: Lent, k: usize) -> Chosen
+    ensures { λ r. ⌜ r ≡ chosenBlock lent (now (s .entry)) k ⌝ }
+{
+    match test_room(s, lent) {
+        Tested::Right(_) => match object_block(s, k) {
+            Found::At(b, z) => Chosen::Block(b, z),
+            Found::Missing => Chosen::Refused(11),
+        },
+        Tested::Refused(number) => Chosen::Refused(number),
+    }
+}
+
 // Where the CDHD payload of object `k` stands, or the number of the refusal.
 pub fn header_place(s: &[u8], lent: Lent, k: usize) -> Place
     ensures { λ r. ⌜ r ≡ headerPlace lent (now (s .entry)) k ⌝ }
 {
-    match test_room(s, lent) {
-        Tested::Right(_) => match object_block(s, k) {
-            Found::At(b, z) => cdhd_in(s, b, z),
-            Found::Missing => Place::Refused(11),
-        },
-        Tested::Refused(number) => Place::Refused(number),
+    match chosen_block(s, lent, k) {
+        Chosen::Block(b, z) => cdhd_in(s, b, z),
+        Chosen::Refused(number) => Place::Refused(number),
     }
 }
 
@@ -110,7 +119,9 @@ fn header_bytes(s: &[u8], p: usize) -> [u8; 16]
 
 // The header of object `object` into a lent buffer: 0, or the number of the refusal.
 pub fn header_record(s: &[u8], out: &mut [u8], object: u32) -> u32
-    ensures { λ n. ⌜ (n ≡ placeNumber (headerCall (now (s .entry)) (now (out .entry)) object)) × (now (out .exit) ≡ headerAfter (now (s .entry)) (headerCall (now (s .entry)) (now (out .entry)) object) (now (out .entry))) ⌝ }
+    ensures { λ n. ⌜ n ≡ placeNumber (headerCall (now (s .entry)) (now (out .entry)) object) ⌝ }
+    ensures { λ _. ⌜ now (out .exit)
+        ≡ headerAfter (now (s .entry)) (headerCall (now (s .entry)) (now (out .entry)) object) (now (out .entry)) ⌝ }
 {
     match header_place(s, fixed_lent(16, out.len()), object as usize) {
         Place::At(p) => {

@@ -50,7 +50,8 @@ fn record_bytes(r: Room) -> [u8; 16]
 
 // The record of a room: 0, or the number of the refusal.
 pub fn record(s: &[u8], out: &mut [u8]) -> u32
-    ensures { λ n. ⌜ (n ≡ numberOf (recordTest (now (s .entry)) (now (out .entry)))) × (now (out .exit) ≡ recordAfter (recordTest (now (s .entry)) (now (out .entry))) (now (out .entry))) ⌝ }
+    ensures { λ n. ⌜ n ≡ numberOf (recordTest (now (s .entry)) (now (out .entry))) ⌝ }
+    ensures { λ _. ⌜ now (out .exit) ≡ recordAfter (recordTest (now (s .entry)) (now (out .entry))) (now (out .entry)) ⌝ }
 {
     match test_room(s, fixed_lent(16, out.len())) {
         Tested::Right(r) => {

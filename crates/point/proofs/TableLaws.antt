@@ -3,19 +3,17 @@ use Prim.Native.Nat.{ℕ, zero, suc, _+_, _*_, _-_, _≤_, _<_}
 use mathlib.Core.Path.{_≡_, refl, sym, ap, _∙_, subst}
 use mathlib.Core.Bool.{Bool, true, false, cond, not, _&&_, false≢true}
 use mathlib.Core.List.{List, [], _∷_}
-use mathlib.Core.Logic.{by-cases}
-use native.Mathlib.Decide.{ℕ-discrete}
 use native.Mathlib.Omega.{arith}
 use borrow.Author.Tests.{eqb-true, eq-eqb, ne-eqb, leb-true, le-leb, not-true, not-false}
 use lib.Dec.{eqb, leb}
-use lib.ListN.{getD, length}
+use lib.ListN.{getD}
 use Rattle.objects.specs.Object.{objectBlock}
 use Rattle.image.specs.Gathered.{Filled}
 use Rattle.image.specs.Image.{objectCount}
+use Rattle.image.specs.Rows.{headerRow, objectRow}
 use Rattle.scene.specs.Painting.{Room}
 use Rattle.scene.specs.Steps.{Scene, Spot, spotOf, moves, applied, bare, replay}
 use Rattle.scene.specs.declared.Entry.{Entry}
-use Rattle.scene.specs.declared.Place.{Place}
 use Rattle.scene.specs.declared.Place.the-variants.{Last, Strip}
 use Rattle.scene.specs.declared.Step.{Step}
 use Rattle.scene.specs.declared.Step.the-variants.{Draw, Hide}
@@ -29,7 +27,7 @@ use Rattle.climb.specs.Climb.{stateOf, lets, isOpen}
 use Rattle.climb.specs.Tables.{boxesOf, States, stateIn}
 use Rattle.point.specs.Objects.{cdhdByte, objectsOf}
 use Rattle.point.specs.Point.{left, top, spans, holds, hit, lowest, objectAt}
-use Rattle.point.specs.Tables.{boxRow, holdsIn, hitIn}
+use Rattle.point.specs.Tables.{holdsIn, hitIn}
 
 -- the last place of an object after a history
 abbrev after : Room → List Step → ℕ → Spot
@@ -150,7 +148,7 @@ lowest-same f g (suc n) from h =
 
 -- ---- the tables tell the room
 
-module _ (s t₀ t : List ℕ) (filled : Filled s (boxRow s) t₀ t) (size : Size) (all : size .count ≡ objectCount s) (few : size .count ≤ 128) where
+module _ (s t₀ t : List ℕ) (filled : Filled s (objectRow true s) t₀ t) (size : Size) (all : size .count ≡ objectCount s) (few : size .count ≤ 128) where
   abbrev S : Objects
   S = objectsOf s
 
@@ -158,31 +156,31 @@ module _ (s t₀ t : List ℕ) (filled : Filled s (boxRow s) t₀ t) (size : Siz
   B = boxesOf t (size .count)
 
   module _ (o : ℕ) (one : 1 ≤ o) (le : o ≤ size .count) where
-    cell : (k : ℕ) → k < 8 → getD t (8 * o + k) 0 ≡ getD (boxRow s (objectBlock s o)) k 0
+    cell : (k : ℕ) → k < 8 → getD t (8 * o + k) 0 ≡ getD (objectRow true s (objectBlock s o)) k 0
     cell k h = filled .new o one (omega (arith, all)) k h
 
     x-is : S .x o ≡ B .x o
-    unfolding objectsOf cdhdByte
+    unfolding objectsOf cdhdByte headerRow
     x-is = sym (cell 1 (omega arith))
 
     y-is : S .y o ≡ B .y o
-    unfolding objectsOf cdhdByte
+    unfolding objectsOf cdhdByte headerRow
     y-is = sym (cell 2 (omega arith))
 
     width-is : S .width o ≡ B .width o
-    unfolding objectsOf cdhdByte
+    unfolding objectsOf cdhdByte headerRow
     width-is = sym (cell 3 (omega arith))
 
     height-is : S .height o ≡ B .height o
-    unfolding objectsOf cdhdByte
+    unfolding objectsOf cdhdByte headerRow
     height-is = sym (cell 4 (omega arith))
 
     flags-is : S .flags o ≡ B .flags o
-    unfolding objectsOf cdhdByte
+    unfolding objectsOf cdhdByte headerRow
     flags-is = sym (cell 5 (omega arith))
 
     parent-is : S .parent o ≡ B .parent o
-    unfolding objectsOf cdhdByte
+    unfolding objectsOf cdhdByte headerRow
     parent-is = sym (cell 6 (omega arith))
 
   count-is : S .count ≡ B .count

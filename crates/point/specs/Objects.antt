@@ -1,18 +1,11 @@
 -- The objects of a room's bytes, as the point question asks for them (document 01, "Actors, points, limbs"; CDHD as in source 003). o is an
 -- object's number from 1.
-use Prim.Native.Nat.{ℕ, _+_, _*_}
+use Prim.Native.Nat.{ℕ, _*_}
 use mathlib.Core.List.{List}
-use lib.ListN.{getD}
-use Rattle.block.specs.declared.Found.{Found}
-use Rattle.block.specs.declared.Found.the-variants.{At, Missing}
 use Rattle.objects.specs.Object.{objectBlock}
 use Rattle.image.specs.Image.{objectCount, cdhdOf}
+use Rattle.image.specs.Rows.{byteOf}
 use Rattle.climb.specs.Objects.{Objects}
-
--- byte n of a header's payload; 0 where there is no header
-abbrev pub byteOf : List ℕ → ℕ → Found → ℕ
-byteOf s n (At p z) = getD s (p + n) 0
-byteOf s n Missing = 0
 
 -- byte n of the object's CDHD
 unfoldable pub cdhdByte : List ℕ → (n o : ℕ) → ℕ

@@ -12,10 +12,10 @@ ghost use Rattle.point.specs.Objects.{objectsOf};
 ghost use Rattle.point.specs.Point.{objectAt};
 ghost use Rattle.point.specs.Call.{found, asked, pointedAt};
 use crate::Pointed;
-use crate::boxes::list_boxes;
 use crate::hit::lowest_hit;
 use climb::states::fill_states;
 use image::gather::gather;
+use image::gather::list_objects;
 use number::wide_u32;
 use replay::Size;
 use room::Room;
@@ -40,10 +40,11 @@ fn seek(
 ) -> u32
     requires { ⌜ (size .count ≡ objectCount (now room)) × Sizes size × (size .count ≤ length (now flags)) ⌝ }
     requires { ⌜ (450 ≤ length (now session)) × (getD (now session) 0 0 ≤ 64) × (shown .n ≤ 64) ⌝ }
-    ensures { λ o. ⌜ ((d : scene.Room) → o ≡ objectAt (objectsOf (now (room .entry))) (sceneAfter d (stepsOf (now (session .entry))) (entries shown)) (now (flags .entry)) x y) ⌝ }
+    ensures { λ o. ⌜ ((d : scene.Room) → o
+        ≡ objectAt (objectsOf (now (room .entry))) (sceneAfter d (stepsOf (now (session .entry))) (entries shown)) (now (flags .entry)) x y) ⌝ }
 {
     let mut boxes = [0u32; 1032];
-    list_boxes(room, &mut boxes);
+    list_objects(room, true, &mut boxes);
     let mut states = [0u32; 129];
     fill_states(shown, &mut states);
     let steps = count(session[0]);

@@ -1,6 +1,5 @@
 // The hit test of one object, and the lowest-numbered object that passes it.
 ghost use mathlib.Core.Path.{_≡_};
-ghost use mathlib.Core.List.{[]};
 ghost use Prim.Native.Nat.{_≤_, _<_};
 ghost use lib.ListN.{length};
 ghost use Rattle.replay.specs.Tables.{Sizes};
@@ -51,8 +50,10 @@ fn is_hit(
     y: usize,
     o: usize,
 ) -> bool
-    requires { ⌜ (1032 ≤ length (now boxes)) × (129 ≤ length (now states)) × (450 ≤ length (now session)) × Sizes size × (steps ≤ 64) × (1 ≤ o) × (o ≤ size .count) × (size .count ≤ length (now flags)) ⌝ }
-    ensures { λ r. ⌜ r ≡ hitIn (now (boxes .entry)) (now (states .entry)) size (down (stepAt (now (session .entry))) steps) (now (flags .entry)) x y o ⌝ }
+    requires { ⌜ (1032 ≤ length (now boxes)) × (129 ≤ length (now states)) × (450 ≤ length (now session))
+        × Sizes size × (steps ≤ 64) × (1 ≤ o) × (o ≤ size .count) × (size .count ≤ length (now flags)) ⌝ }
+    ensures { λ r. ⌜ r
+        ≡ hitIn (now (boxes .entry)) (now (states .entry)) size (down (stepAt (now (session .entry))) steps) (now (flags .entry)) x y o ⌝ }
 {
     if !holds(boxes, session, size, steps, x, y, o as u32) {
         return false;
@@ -74,8 +75,10 @@ pub fn lowest_hit(
     x: usize,
     y: usize,
 ) -> u32
-    requires { ⌜ (1032 ≤ length (now boxes)) × (129 ≤ length (now states)) × (450 ≤ length (now session)) × Sizes size × (steps ≤ 64) × (size .count ≤ length (now flags)) ⌝ }
-    ensures { λ r. ⌜ r ≡ lowest (hitIn (now (boxes .entry)) (now (states .entry)) size (down (stepAt (now (session .entry))) steps) (now (flags .entry)) x y) 1 (size .count) ⌝ }
+    requires { ⌜ (1032 ≤ length (now boxes)) × (129 ≤ length (now states)) × (450 ≤ length (now session))
+        × Sizes size × (steps ≤ 64) × (size .count ≤ length (now flags)) ⌝ }
+    ensures { λ r. ⌜ r
+        ≡ lowest (hitIn (now (boxes .entry)) (now (states .entry)) size (down (stepAt (now (session .entry))) steps) (now (flags .entry)) x y) 1 (size .count) ⌝ }
 {
     let count = size.count;
     let mut o: usize = 1;

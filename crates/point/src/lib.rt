@@ -1,6 +1,5 @@
 // The object under a point (document 01, "Actors, points, limbs"): its box, its lent flag byte and the chain of its containers, which crate climb
 // climbs.
-pub mod boxes;
 pub mod call;
 pub mod hit;
 

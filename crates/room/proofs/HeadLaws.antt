@@ -13,8 +13,12 @@ use Rattle.block.specs.Tree.{wellFormed, needTag, findTag}
 use Rattle.block.specs.declared.Found.{Found}
 use Rattle.block.specs.declared.Found.the-variants.{At, Missing}
 use Rattle.block.proofs.Laws.{need-at, nth-at, formed-small}
-use Rattle.room.specs.Head.{orMissing, backgroundIn, neededIn, objectsRight, sizesRight, roomOf, sized, headIn, headOf, Sound}
+use Rattle.room.specs.Head.{orMissing, bothFound, headedIn, withHeader}
+use Rattle.room.specs.Head.{backgroundIn, neededIn, objectsRight, sizesRight, roomOf, sized, headIn, headOf, Sound}
 use Rattle.room.specs.declared.Parts.{Parts}
+use Rattle.room.specs.declared.Headed.{Headed}
+use Rattle.room.specs.declared.Headed.the-variants.{Both}
+use Rattle.room.specs.declared.Headed.the-variants as headed
 use Rattle.room.specs.declared.Needed.{Needed}
 use Rattle.room.specs.declared.Needed.the-variants as needed
 use Rattle.room.specs.declared.Room.{Room}
@@ -22,9 +26,32 @@ use Rattle.room.specs.declared.Tested.{Tested}
 use Rattle.room.specs.declared.Tested.the-variants.{Right, Refused}
 
 -- what holds of Missing, and of each way on, holds of the whole
-or-missing : (P : Needed → Type 0) → P needed.Missing → (f : Found) (next : ℕ → ℕ → Needed) → ((a z : ℕ) → At a z ≡ f → P (next a z)) → P (orMissing f next)
-or-missing P m (At a z) next h = h a z refl
-or-missing P m Missing next h = m
+module _ (P : Needed → Type 0) (m : P needed.Missing) where
+  or-missing : (f : Found) (next : ℕ → ℕ → Needed) → ((a z : ℕ) → At a z ≡ f → P (next a z)) → P (orMissing f next)
+  or-missing (At a z) next h = h a z refl
+  or-missing Missing next h = m
+
+  with-header : (f : Headed) (next : ℕ → ℕ → ℕ → Needed) → ((hd a z : ℕ) → Both hd a z ≡ f → P (next hd a z)) → P (withHeader f next)
+  with-header (Both hd a z) next h = h hd a z refl
+  with-header headed.Missing next h = m
+
+-- where a header and the block beside it lie, in the list [a, e)
+module _ (t n u : ℕ) (s : List ℕ) (a e : ℕ) where
+  abbrev BothLie : Headed → Type 0
+  BothLie (Both hd b z) = (hd + n ≤ e) × (b ≤ z) × (z ≤ e)
+  BothLie headed.Missing = Unit {0}
+
+  both-lie : (f g : Found) → f ≡ needTag t n s a e → g ≡ needTag u 0 s a e → BothLie (bothFound f g)
+  both-lie (At hd hd-end) (At b z) p q =
+      let i = need-at _ _ _ _ _ _ _ p in
+      let j = need-at _ _ _ _ _ _ _ q in
+      (omega arith, omega arith, omega arith)
+  both-lie (At hd hd-end) Missing p q = tt
+  both-lie Missing g p q = tt
+
+  pub headed-lies : (hd b z : ℕ) → Both hd b z ≡ headedIn t n u s a e → (hd + n ≤ e) × (b ≤ z) × (z ≤ e)
+  unfolding headedIn
+  headed-lies hd b z h = subst⁻¹ BothLie h (both-lie (needTag t n s a e) (needTag u 0 s a e) refl refl)
 
 -- where the needed blocks lie
 pub record Lies (s : List ℕ) (p : Parts) : Type 0 where
@@ -43,12 +70,10 @@ module _ (s : List ℕ) where
   background-lies : (hd im e : ℕ) → hd + 6 ≤ length s → e ≤ length s → AllLie (backgroundIn s hd im e)
   unfolding backgroundIn
   background-lies hd im e h le =
-      or-missing AllLie tt (needTag tag-RMIH 2 s im e) _ λ ih ih-end h₁.
-      or-missing AllLie tt (needTag tag-IM00 0 s im e) _ λ bg bg-end h₂.
-      or-missing AllLie tt (findTag tag-SMAP s bg bg-end) _ λ sm sm-end h₃.
-      let i₁ = need-at _ _ _ _ _ _ _ h₁ in
-      let i₂ = need-at _ _ _ _ _ _ _ h₂ in
-      let i₃ = nth-at _ _ _ _ _ _ _ h₃ in
+      with-header AllLie tt (headedIn tag-RMIH 2 tag-IM00 s im e) _ λ ih bg bg-end h₁.
+      or-missing AllLie tt (findTag tag-SMAP s bg bg-end) _ λ sm sm-end h₂.
+      let i₁ = headed-lies _ _ _ _ _ _ _ _ _ h₁ in
+      let i₂ = nth-at _ _ _ _ _ _ _ h₂ in
       record {
         header-in = h;
         counts-in = omega arith;
@@ -61,10 +86,8 @@ module _ (s : List ℕ) where
   needed-lies : AllLie (neededIn s)
   unfolding neededIn
   needed-lies =
-      or-missing AllLie tt (needTag tag-RMHD 6 s 8 (length s)) _ λ hd hd-end h₁.
-      or-missing AllLie tt (needTag tag-RMIM 0 s 8 (length s)) _ λ im im-end h₂.
-      let i₁ = need-at _ _ _ _ _ _ _ h₁ in
-      let i₂ = need-at _ _ _ _ _ _ _ h₂ in
+      with-header AllLie tt (headedIn tag-RMHD 6 tag-RMIM s 8 (length s)) _ λ hd im im-end h.
+      let i = headed-lies _ _ _ _ _ _ _ _ _ h in
       background-lies hd im im-end (omega arith) (omega arith)
 
   pub parts-lie : (p : Parts) → needed.All p ≡ neededIn s → Lies s p

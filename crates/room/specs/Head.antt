@@ -1,8 +1,8 @@
 -- What a room must hold: refusals 1 to 3 in that order (document 01, "Sizes", "Numbered refusals", "Blocks").
-use Prim.Native.Nat.{ℕ, _+_, _%_, _≤_, _<_}
+use Prim.Native.Nat.{ℕ, _+_, _%_, _≤_}
 use mathlib.Core.Path.{_≡_}
 use mathlib.Core.List.{List}
-use mathlib.Core.Bool.{Bool, true, false, _&&_, cond}
+use mathlib.Core.Bool.{Bool, _&&_, cond}
 use lib.ListN.{length}
 use lib.Dec.{leb, eqb}
 use Rattle.number.specs.Number.{le16}
@@ -11,6 +11,9 @@ use Rattle.block.specs.Tree.{wellFormed, needTag, findTag, countTag, eachHas}
 use Rattle.block.specs.declared.Found.{Found}
 use Rattle.block.specs.declared.Found.the-variants.{At, Missing}
 use Rattle.room.specs.declared.Parts.{Parts}
+use Rattle.room.specs.declared.Headed.{Headed}
+use Rattle.room.specs.declared.Headed.the-variants.{Both}
+use Rattle.room.specs.declared.Headed.the-variants as headed
 use Rattle.room.specs.declared.Needed.{Needed}
 use Rattle.room.specs.declared.Needed.the-variants as needed
 use Rattle.room.specs.declared.Room.{Room}
@@ -22,20 +25,31 @@ abbrev pub orMissing : Found → (ℕ → ℕ → Needed) → Needed
 orMissing (At a z) next = next a z
 orMissing Missing next = needed.Missing
 
+-- a header's payload, and that of the block beside it, where both were found
+abbrev pub bothFound : (header body : Found) → Headed
+bothFound (At hd hd-end) (At a z) = Both hd a z
+bothFound (At hd hd-end) Missing = headed.Missing
+bothFound Missing body = headed.Missing
+
+-- in the list [a, e): the first block with the tag t, of n bytes or more, and the first with the tag u
+unfoldable pub headedIn : (t n u : ℕ) → List ℕ → (a e : ℕ) → Headed
+headedIn t n u s a e = bothFound (needTag t n s a e) (needTag u 0 s a e)
+
+-- on with a header and the block beside it
+abbrev pub withHeader : Headed → (ℕ → ℕ → ℕ → Needed) → Needed
+withHeader (Both hd a z) next = next hd a z
+withHeader headed.Missing next = needed.Missing
+
 -- in RMIM's payload [im, e): RMIH with its u16, and IM00 with SMAP; hd is RMHD's payload
 unfoldable pub backgroundIn : List ℕ → (hd im e : ℕ) → Needed
 backgroundIn s hd im e =
-    orMissing (needTag tag-RMIH 2 s im e) λ ih ih-end.
-    orMissing (needTag tag-IM00 0 s im e) λ bg bg-end.
+    withHeader (headedIn tag-RMIH 2 tag-IM00 s im e) λ ih bg bg-end.
     orMissing (findTag tag-SMAP s bg bg-end) λ sm sm-end.
     needed.All (record { header = hd; «image_header» = ih; image = bg; «image_end» = bg-end; smap = sm; «smap_end» = sm-end })
 
 -- the room's needed blocks: RMHD with its three u16, and RMIM with the background
 unfoldable pub neededIn : List ℕ → Needed
-neededIn s =
-    orMissing (needTag tag-RMHD 6 s 8 (length s)) λ hd hd-end.
-    orMissing (needTag tag-RMIM 0 s 8 (length s)) λ im im-end.
-    backgroundIn s hd im im-end
+neededIn s = withHeader (headedIn tag-RMHD 6 tag-RMIM s 8 (length s)) λ hd im im-end. backgroundIn s hd im im-end
 
 -- each OBCD has CDHD (13 bytes), and each OBIM has IMHD (first 16 bytes)
 unfoldable pub objectsRight : List ℕ → Bool

@@ -1,16 +1,13 @@
 -- The whole test of a room, as the load does it: 1, 2, 3, 4, then the background and planes 1 to N, each with 5 first and then 6 to 8
 -- (document 01, "Numbered refusals"). Every call that takes room bytes starts with it.
-use Prim.Native.Nat.{ℕ, _+_, _*_, _/_}
+use Prim.Native.Nat.{ℕ, _*_, _/_}
 use mathlib.Core.List.{List}
 use mathlib.Core.Bool.{Bool, true, false, cond, _&&_, _||_}
 use lib.Dec.{ltb}
-use Rattle.block.specs.Tree.{findTag}
-use Rattle.block.specs.declared.Found.{Found}
-use Rattle.block.specs.declared.Found.the-variants.{At, Missing}
-use Rattle.table.specs.Test.{andThen, leftmost, blockTest}
 use Rattle.table.specs.declared.Test.{Test}
 use Rattle.table.specs.declared.Test.the-variants as test
 use Rattle.room.specs.Head.{headOf}
+use Rattle.room.specs.Picture.{imTest}
 use Rattle.room.specs.declared.Lent.{Lent}
 use Rattle.room.specs.declared.Room.{Room}
 use Rattle.room.specs.declared.Tested.{Tested}
@@ -20,25 +17,9 @@ use Rattle.room.specs.declared.Tested.the-variants.{Right, Refused}
 abbrev pub strips : Room → ℕ
 strips r = r .width / 8
 
--- ZP01 to ZP04
-abbrev pub tag-ZP : ℕ → ℕ
-tag-ZP k = 0x5A50_3030 + k
-
--- where plane k stands in IM00, with its header
-unfoldable pub planeIn : List ℕ → Room → ℕ → Found
-planeIn s r k = findTag (tag-ZP k) s (r .image) (r .«image_end»)
-
--- a missing plane is all zero, so it passes
-abbrev pub planeFound : (n h : ℕ) → List ℕ → Found → Test
-planeFound n h s (At b z) = blockTest true n h s b z
-planeFound n h s Missing = test.Passed
-
-unfoldable pub planeTest : List ℕ → Room → ℕ → Test
-planeTest s r k = planeFound (strips r) (r .height) s (planeIn s r k)
-
 -- the background, then planes 1 to N
 unfoldable pub picturesTest : List ℕ → Room → Test
-picturesTest s r = andThen (blockTest false (strips r) (r .height) s (r .smap) (r .«smap_end»)) (leftmost (planeTest s r) 1 (r .planes))
+picturesTest s r = imTest (r .planes) (strips r) (r .height) s (r .image) (r .«image_end») (r .smap) (r .«smap_end»)
 
 -- what a call needs: pixels W × H, masks N × S × H, a flag byte per object, a record or session of its fixed size
 unfoldable pub short : Lent → Room → Bool

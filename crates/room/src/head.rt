@@ -2,7 +2,8 @@
 ghost use mathlib.Core.Path.{_≡_};
 ghost use Prim.Native.Nat.{_+_, _≤_};
 ghost use lib.ListN.{length};
-ghost use Rattle.room.specs.Head.{backgroundIn, neededIn, objectsRight, roomOf, sizesRight, sized, headOf};
+ghost use Rattle.room.specs.Head.{headedIn, backgroundIn, neededIn, objectsRight, roomOf, sizesRight, sized, headOf};
+use crate::Headed;
 use crate::Needed;
 use crate::Parts;
 use crate::Room;
@@ -12,35 +13,37 @@ use block::count_tag;
 use block::each_has;
 use block::find_tag;
 use block::need_tag;
+use block::tags::CDHD;
+use block::tags::IM00;
+use block::tags::IMHD;
+use block::tags::OBCD;
+use block::tags::OBIM;
+use block::tags::RMHD;
+use block::tags::RMIH;
+use block::tags::RMIM;
+use block::tags::SMAP;
 use number::read_le16;
 
-const RMHD: usize = 0x524D_4844;
-
-const RMIM: usize = 0x524D_494D;
-
-const RMIH: usize = 0x524D_4948;
-
-const IM00: usize = 0x494D_3030;
-
-const SMAP: usize = 0x534D_4150;
-
-const OBCD: usize = 0x4F42_4344;
-
-const CDHD: usize = 0x4344_4844;
-
-const OBIM: usize = 0x4F42_494D;
-
-const IMHD: usize = 0x494D_4844;
+// The payloads of the first block with the tag `header`, of `n` bytes or more, and of the first with the tag `body`, in the list [at, end).
+fn need_headed(s: &[u8], at: usize, end: usize, header: usize, n: usize, body: usize) -> Headed
+    requires { ⌜ end ≤ length (now s) ⌝ }
+    ensures { λ r. ⌜ r ≡ headedIn header n body (now (s .entry)) at end ⌝ }
+{
+    let Found::At(start, _) = need_tag(s, at, end, header, n) else {
+        return Headed::Missing;
+    };
+    let Found::At(a, z) = need_tag(s, at, end, body, 0) else {
+        return Headed::Missing;
+    };
+    Headed::Both(start, a, z)
+}
 
 // The needed blocks of RMIM's payload [im, end), beside RMHD's payload.
 fn background(s: &[u8], header: usize, im: usize, end: usize) -> Needed
     requires { ⌜ end ≤ length (now s) ⌝ }
     ensures { λ r. ⌜ r ≡ backgroundIn (now (s .entry)) header im end ⌝ }
 {
-    let Found::At(image_header, _) = need_tag(s, im, end, RMIH, 2) else {
-        return Needed::Missing;
-    };
-    let Found::At(image, image_end) = need_tag(s, im, end, IM00, 0) else {
+    let Headed::Both(image_header, image, image_end) = need_headed(s, im, end, RMIH, 2, IM00) else {
         return Needed::Missing;
     };
     let Found::At(smap, smap_end) = find_tag(s, image, image_end, SMAP) else {
@@ -60,11 +63,7 @@ fn background(s: &[u8], header: usize, im: usize, end: usize) -> Needed
 fn needed(s: &[u8]) -> Needed
     ensures { λ r. ⌜ r ≡ neededIn (now (s .entry)) ⌝ }
 {
-    let n = s.len();
-    let Found::At(header, _) = need_tag(s, 8, n, RMHD, 6) else {
-        return Needed::Missing;
-    };
-    let Found::At(im, end) = need_tag(s, 8, n, RMIM, 0) else {
+    let Headed::Both(header, im, end) = need_headed(s, 8, s.len(), RMHD, 6, RMIM) else {
         return Needed::Missing;
     };
     background(s, header, im, end)

@@ -1,6 +1,7 @@
 // Rooms: what a room must hold, and its whole test (document 01, "Sizes", "Numbered refusals", "Blocks"). The record and the objects'
 // headers and names are crate objects.
 pub mod head;
+pub mod picture;
 pub mod test;
 
 // Where the needed blocks stand: the payloads of RMHD, RMIH and IM00, and the SMAP block with its header.
@@ -11,6 +12,12 @@ pub struct Parts {
     pub image_end: usize,
     pub smap: usize,
     pub smap_end: usize,
+}
+
+// Where a header's payload starts, and the payload of the block beside it.
+pub enum Headed {
+    Both(usize, usize, usize),
+    Missing,
 }
 
 pub enum Needed {

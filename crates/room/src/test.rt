@@ -1,61 +1,14 @@
 // The whole test of a room, with which every call that takes room bytes starts: refusals 1 to 8, with 4 in its place.
 ghost use mathlib.Core.Path.{_≡_};
 ghost use Prim.Native.Nat.{_≤_};
-ghost use Rattle.table.specs.Test.{leftmost};
 ghost use Rattle.room.specs.Head.{Sound};
-ghost use Rattle.room.specs.Test.{planeIn, planeTest, picturesTest, short, roomTest, nothing, fixedOnly, withSurfaces, withFlags};
+ghost use Rattle.room.specs.Test.{picturesTest, short, roomTest, nothing, fixedOnly, withSurfaces, withFlags};
 use crate::Lent;
 use crate::Room;
 use crate::Tested;
 use crate::head::read_head;
-use block::Found;
-use block::find_tag;
+use crate::picture::test_im;
 use table::Test;
-use table::test_block;
-
-const ZP00: usize = 0x5A50_3030;
-
-// Where plane k stands in IM00, with its header.
-pub fn plane_in(s: &[u8], r: Room, k: usize) -> Found
-    requires { ⌜ Sound (now s) r × (k ≤ 4) ⌝ }
-    ensures { λ f. ⌜ f ≡ planeIn (now (s .entry)) r k ⌝ }
-{
-    let image = r.image;
-    let end = r.image_end;
-    find_tag(s, image, end, ZP00 + k)
-}
-
-// The test of plane k.
-fn test_plane(s: &[u8], r: Room, k: usize) -> Test
-    requires { ⌜ Sound (now s) r × (k ≤ 4) ⌝ }
-    ensures { λ t. ⌜ t ≡ planeTest (now (s .entry)) r k ⌝ }
-{
-    let strips = r.width / 8;
-    match plane_in(s, r, k) {
-        Found::At(b, z) => test_block(s, true, strips, r.height, b, z),
-        Found::Missing => Test::Passed,
-    }
-}
-
-// The tests of planes 1 to N.
-fn test_planes(s: &[u8], r: Room) -> Test
-    requires { ⌜ Sound (now s) r ⌝ }
-    ensures { λ t. ⌜ t ≡ leftmost (planeTest (now (s .entry)) r) 1 (r .planes) ⌝ }
-{
-    let planes = r.planes;
-    let mut k: usize = 1;
-    while k <= planes {
-        match test_plane(s, r, k) {
-            Test::Passed => {
-                k += 1;
-            }
-            Test::Refused(number) => {
-                return Test::Refused(number);
-            }
-        }
-    }
-    Test::Passed
-}
 
 // The tests of the background and of planes 1 to N.
 fn test_pictures(s: &[u8], r: Room) -> Test
@@ -63,10 +16,16 @@ fn test_pictures(s: &[u8], r: Room) -> Test
     ensures { λ t. ⌜ t ≡ picturesTest (now (s .entry)) r ⌝ }
 {
     let strips = r.width / 8;
-    match test_block(s, false, strips, r.height, r.smap, r.smap_end) {
-        Test::Passed => test_planes(s, r),
-        Test::Refused(number) => Test::Refused(number),
-    }
+    test_im(
+        s,
+        r.image,
+        r.image_end,
+        r.smap,
+        r.smap_end,
+        strips,
+        r.height,
+        r.planes,
+    )
 }
 
 // Whether a lent buffer is shorter than the call needs.

@@ -11,12 +11,12 @@ use native.Mathlib.Numerals.{add-one}
 use lib.Dec.{eqb, leb}
 use lib.ListN.{length, getD, set, length-set}
 use lib.Seq.{getD-set-same, getD-set-other}
-use Rattle.table.specs.Test.{number, leftmost, blockTest}
+use Rattle.table.specs.Test.{number}
 use Rattle.table.specs.declared.Test as table
 use Rattle.table.specs.declared.Test.the-variants as test
 use Rattle.block.specs.Tree.{wellFormed}
 use Rattle.room.specs.Head.{headOf, headIn, sized, sizesRight, objectsRight, neededIn, roomOf}
-use Rattle.room.specs.Test.{strips, planeIn, planeTest, picturesTest, short, orRefused, afterHead, roomTest}
+use Rattle.room.specs.Test.{strips, picturesTest, short, orRefused, afterHead, roomTest}
 use Rattle.room.specs.declared.Lent as room-lent
 use Rattle.room.specs.declared.Needed.{Needed}
 use Rattle.room.specs.declared.Needed.the-variants as needed
@@ -33,7 +33,7 @@ use Rattle.scene.specs.declared.Step.the-variants.{Draw, Hide}
 use Rattle.layers.specs.Decoded.{decoded}
 use Rattle.play.specs.Bytes.{lent, Lent, testOf, afterLoad, afterCall, numberOf, bytesAfter}
 use Rattle.play.specs.Calls.{stateOf, callNumber}
-use Rattle.verdict.proofs.VerdictLaws.{LowTest, low-then, low-leftmost, low-block, low-plane, low-fault}
+use Rattle.verdict.proofs.VerdictLaws.{LowTest, low-im, low-fault}
 use Rattle.runner.specs.Coded.{callAt, callsOf}
 use Rattle.runner.specs.Run.{played, playedNumber, putFirst}
 
@@ -68,11 +68,8 @@ low-head s = on (wellFormed s)
     on false = omega arith
 
 low-pictures : (s : List ℕ) (r : room.Room) → LowTest (picturesTest s r)
-unfolding picturesTest planeTest
-low-pictures s r =
-    low-then (blockTest false (strips r) (r .height) s (r .smap) (r .«smap_end»)) (leftmost (planeTest s r) 1 (r .planes))
-    (low-block false (strips r) (r .height) s (r .smap) (r .«smap_end»))
-    (low-leftmost (planeTest s r) (λ k. low-plane (strips r) (r .height) s (planeIn s r k)) (r .planes) 1)
+unfolding picturesTest
+low-pictures s r = low-im (r .planes) (strips r) (r .height) s (r .image) (r .«image_end») (r .smap) (r .«smap_end»)
 
 low-or : (t : table.Test) (r : room.Room) → LowTest t → LowTested (orRefused t r)
 low-or test.Passed r h = tt

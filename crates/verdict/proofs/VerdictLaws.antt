@@ -22,9 +22,9 @@ use Rattle.block.specs.Tag.{tag-SMAP, tag-OBCD}
 use Rattle.block.specs.Tree.{findTag, tagged}
 use Rattle.block.specs.declared.Found.{Found}
 use Rattle.block.specs.declared.Found.the-variants.{At, Missing}
-use Rattle.room.specs.Test.{planeFound}
+use Rattle.room.specs.Picture.{planeIn, planeFound, planeTest, imTest}
 use Rattle.image.specs.Image.{imageWidth, imageHeight, stateBlock, objectCount, imageBlock, imageCount, homeX, homeY, isObject, drawable}
-use Rattle.image.specs.Fault.{planeIn, planeTest, picturesTest, imageTest, stateTest, imageFault}
+use Rattle.image.specs.Fault.{smapTest, imageTest, stateTest, imageFault}
 use mathlib.Core.Path.{_≡_, refl, sym, ap, _∙_}
 use mathlib.Core.Logic.{by-cases}
 use native.Mathlib.Decide.{ℕ-discrete}
@@ -219,16 +219,19 @@ low-plane-test : (n h : ℕ) (s : List ℕ) (b z k : ℕ) → LowTest (planeTest
 unfolding planeTest
 low-plane-test n h s b z k = low-plane n h s (planeIn s b z k)
 
-low-pictures : (planes n h : ℕ) (s : List ℕ) (b z : ℕ) (f : Found) → LowTest (picturesTest planes n h s b z f)
-unfolding picturesTest
-low-pictures planes n h s b z (At smap end) =
+pub low-im : (planes n h : ℕ) (s : List ℕ) (b z smap end : ℕ) → LowTest (imTest planes n h s b z smap end)
+unfolding imTest
+low-im planes n h s b z smap end =
     low-then (blockTest false n h s smap end) (leftmost (planeTest n h s b z) 1 planes) (low-block false n h s smap end)
     (low-leftmost (planeTest n h s b z) (low-plane-test n h s b z) planes 1)
-low-pictures planes n h s b z Missing = omega arith
+
+low-smap : (planes n h : ℕ) (s : List ℕ) (b z : ℕ) (f : Found) → LowTest (smapTest planes n h s b z f)
+low-smap planes n h s b z (At smap end) = low-im planes n h s b z smap end
+low-smap planes n h s b z Missing = omega arith
 
 low-state : (planes n h : ℕ) (s : List ℕ) (f : Found) → LowTest (stateTest planes n h s f)
 unfolding imageTest
-low-state planes n h s (At b z) = low-pictures planes n h s (b + 8) z (findTag tag-SMAP s (b + 8) z)
+low-state planes n h s (At b z) = low-smap planes n h s (b + 8) z (findTag tag-SMAP s (b + 8) z)
 low-state planes n h s Missing = omega arith
 
 -- the image's own refusal

@@ -9,23 +9,11 @@ returns c = end-low _ _ _ (c .if1 .taken)
 returns-2 : tie.Need-returns-2
 returns-2 c = end-short _ _ _ (c .before .if1 .left) (c .if2 .taken)
 
-add-read-be32 : tie.Need-add-read-be32
-add-read-be32 c = search needs
-
-read-be32-requires : tie.Need-read-be32-requires
-read-be32-requires c κs = search needs
-
 returns-3 : tie.Need-returns-3
 returns-3 c = end-small _ _ _ _ (c .before .read-be32 .ensures) (c .if3 .taken)
 
-sub-if4 : tie.Need-sub-if4
-sub-if4 c = search needs
-
 returns-4 : tie.Need-returns-4
 returns-4 c = end-past _ _ _ _ (c .before .before .read-be32 .ensures) (search needs) (search needs)
-
-add-result : tie.Need-add-result
-add-result c = search needs
 
 returns-5 : tie.Need-returns-5
 returns-5 c = end-at _ _ _ _ (c .before .before .read-be32 .ensures) (search needs) (search needs) (search needs)
@@ -33,13 +21,5 @@ returns-5 c = end-at _ _ _ _ (c .before .before .read-be32 .ensures) (search nee
 pub block-end-spec : {M : Type 1} → statement M
 block-end-spec =
     tie.close
-    (tie.spec
-    returns
-    returns-2
-    add-read-be32
-    read-be32-requires
-    returns-3
-    sub-if4
-    returns-4
-    add-result
+    (tie.spec returns returns-2 (λ c. search needs) (λ c κs. search needs) returns-3 (λ c. search needs) returns-4 (λ c. search needs)
     returns-5)

@@ -14,12 +14,6 @@ Inv-loop s at end tag a₀ n₀ a n = (n ≤ a) × (n + countTag tag s a end ≡
 abbrev μ-loop : tie.MeasureT-loop
 μ-loop s at end tag a₀ n₀ a n = end - a
 
-loop-holds : tie.Need-loop-holds Inv-loop μ-loop
-loop-holds c = search needs
-
-block-end-requires : tie.Need-block-end-requires Inv-loop μ-loop
-block-end-requires c κs = search needs
-
 returns : tie.Need-returns Inv-loop μ-loop
 returns c =
     let none = ap length (tagged-stop (c .before .before .before .before .args .tag) _ _ _ _ (c .before .block-end .ensures) (c .if1 .taken)) in
@@ -60,15 +54,5 @@ loop-again-2 c =
 pub count-tag-spec : {M : Type 1} → statement M
 count-tag-spec =
     tie.close
-    (tie.spec
-    Inv-loop
-    μ-loop
-    loop-holds
-    block-end-requires
-    returns
-    read-be32-requires
-    add-n
-    loop-less
-    loop-again
-    loop-less-2
+    (tie.spec Inv-loop μ-loop (λ c. search needs) (λ c κs. search needs) returns read-be32-requires add-n loop-less loop-again loop-less-2
     loop-again-2)

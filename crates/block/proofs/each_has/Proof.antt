@@ -13,12 +13,6 @@ Inv-loop s at end tag child n a₀ a = eachHas tag child n s a end ≡ eachHas t
 abbrev μ-loop : tie.MeasureT-loop
 μ-loop s at end tag child n a₀ a = end - a
 
-loop-holds : tie.Need-loop-holds Inv-loop μ-loop
-loop-holds c = search needs
-
-block-end-requires : tie.Need-block-end-requires Inv-loop μ-loop
-block-end-requires c κs = search needs
-
 returns : tie.Need-returns Inv-loop μ-loop
 returns c = each-stop _ _ _ _ _ _ _ (c .before .block-end .ensures) (c .if1 .taken) ∙ c .before .before .loop .inv
 
@@ -65,17 +59,5 @@ loop-again-2 c =
 pub each-has-spec : {M : Type 1} → statement M
 each-has-spec =
     tie.close
-    (tie.spec
-    Inv-loop
-    μ-loop
-    loop-holds
-    block-end-requires
-    returns
-    read-be32-requires
-    add-has-tag
-    has-tag-requires
-    loop-less
-    loop-again
-    returns-2
-    loop-less-2
-    loop-again-2)
+    (tie.spec Inv-loop μ-loop (λ c. search needs) (λ c κs. search needs) returns read-be32-requires add-has-tag has-tag-requires loop-less
+    loop-again returns-2 loop-less-2 loop-again-2)

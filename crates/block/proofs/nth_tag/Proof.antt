@@ -13,12 +13,6 @@ Inv-loop s at end tag k a₀ left₀ a left = nthTag tag s a end left ≡ nthTag
 abbrev μ-loop : tie.MeasureT-loop
 μ-loop s at end tag k a₀ left₀ a left = end - a
 
-loop-holds : tie.Need-loop-holds Inv-loop μ-loop
-loop-holds c = search needs
-
-block-end-requires : tie.Need-block-end-requires Inv-loop μ-loop
-block-end-requires c κs = search needs
-
 returns : tie.Need-returns Inv-loop μ-loop
 returns c =
     nth-stop _ _ _ _ _ (c .before .block-end .ensures) _ (c .if1 .taken) ∙ c .before .before .loop .inv
@@ -32,9 +26,6 @@ returns-2 : tie.Need-returns-2 Inv-loop μ-loop
 returns-2 c =
     nth-here _ _ _ _ _ (c .before .before .before .before .block-end .ensures) _ (c .before .before .before .if1 .left) _ (c .before .before .read-be32 .ensures) (c .before .if2 .taken) (c .if3 .taken)
     ∙ c .before .before .before .before .before .loop .inv
-
-sub-left : tie.Need-sub-left Inv-loop μ-loop
-sub-left c = search needs
 
 loop-less : tie.Need-loop-less Inv-loop μ-loop
 loop-less c =
@@ -59,16 +50,5 @@ loop-again-2 c =
 pub nth-tag-spec : {M : Type 1} → statement M
 nth-tag-spec =
     tie.close
-    (tie.spec
-    Inv-loop
-    μ-loop
-    loop-holds
-    block-end-requires
-    returns
-    read-be32-requires
-    returns-2
-    sub-left
-    loop-less
-    loop-again
-    loop-less-2
-    loop-again-2)
+    (tie.spec Inv-loop μ-loop (λ c. search needs) (λ c κs. search needs) returns read-be32-requires returns-2 (λ c. search needs) loop-less
+    loop-again loop-less-2 loop-again-2)

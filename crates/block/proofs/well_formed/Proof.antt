@@ -12,15 +12,6 @@ returns-2 : tie.Need-returns-2
 unfolding wellFormed
 returns-2 c = rw (le-leb _ _ (c .before .if1 .left), lt-leb _ _ (c .if2 .taken))
 
-read-be32-requires : tie.Need-read-be32-requires
-read-be32-requires c κs = search needs
-
-block-end-requires : tie.Need-block-end-requires
-block-end-requires c κs = search needs
-
-block-ok-requires : tie.Need-block-ok-requires
-block-ok-requires c κs = search needs
-
 returns-3 : tie.Need-returns-3
 unfolding wellFormed
 returns-3 c = simp (le-leb _ _ (c .before .before .before .before .if1 .left), le-leb _ _ (c .before .before .before .if2 .left)) (cc)
@@ -28,4 +19,4 @@ returns-3 c = simp (le-leb _ _ (c .before .before .before .before .if1 .left), l
 pub well-formed-spec : {M : Type 1} → statement M
 well-formed-spec =
     tie.close
-    (tie.spec returns returns-2 read-be32-requires block-end-requires block-ok-requires returns-3)
+    (tie.spec returns returns-2 (λ c κs. search needs) (λ c κs. search needs) (λ c κs. search needs) returns-3)

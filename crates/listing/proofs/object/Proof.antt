@@ -10,12 +10,6 @@ use borrow.Author.Needs.{needs}
 use Rattle.listing.proofs.object.Statement.{statement}
 use Rattle.listing.proofs.object.Tie as tie
 
-cdhd-in-requires : tie.Need-cdhd-in-requires
-cdhd-in-requires c κs = search needs
-
-enum-known-p : tie.Need-enum-known-p
-enum-known-p c = search needs
-
 read-cdhd-requires : tie.Need-read-cdhd-requires
 read-cdhd-requires c κs = cdhd-at _ _ _ _ (omega arith) (sym (c .before .p .given .1) ∙ c .before .before .before .cdhd-in .ensures)
 
@@ -32,23 +26,8 @@ object-line-requires c κs =
     let height : c .read-cdhd .result .height ≡ getD room (p + 5) 0 = ap (λ (h : Cdhd). h .height) e in
     (omega (arith, bytes (p + 2)), omega (arith, bytes (p + 3)), omega (arith, bytes (p + 4)), omega (arith, bytes (p + 5)))
 
-enum-told : tie.Need-enum-told
-enum-told c = search needs
-
-returns : tie.Need-returns
-returns c = search needs
-
-returns-2 : tie.Need-returns-2
-returns-2 c = search needs
-
 pub object-spec : {M : Type 1} → statement M
 object-spec =
     tie.close
-    (tie.spec
-    cdhd-in-requires
-    enum-known-p
-    read-cdhd-requires
-    object-line-requires
-    enum-told
-    returns
-    returns-2)
+    (tie.spec (λ c κs. search needs) (λ c. search needs) read-cdhd-requires object-line-requires (λ c. search needs) (λ c. search needs)
+    (λ c. search needs))

@@ -15,12 +15,6 @@ abbrev μ-loop : tie.MeasureT-loop
 loop-holds : tie.Need-loop-holds Inv-loop μ-loop
 loop-holds c = omega arith
 
-find-tag-requires : tie.Need-find-tag-requires Inv-loop μ-loop
-find-tag-requires c κs = search needs
-
-enum-known-b : tie.Need-enum-known-b Inv-loop μ-loop
-enum-known-b c = search needs
-
 object-requires : tie.Need-object-requires Inv-loop μ-loop
 object-requires c κs =
     let i = nth-at _ _ _ _ _ _ _ (sym (c .before .b .given .1) ∙ c .before .before .before .find-tag .ensures) in
@@ -41,24 +35,8 @@ loop-again c =
     let i = nth-at _ _ _ _ _ _ _ (sym (c .before .before .b .given .1) ∙ c .before .before .before .before .find-tag .ensures) in
     omega arith
 
-enum-told : tie.Need-enum-told Inv-loop μ-loop
-enum-told c = search needs
-
-returns : tie.Need-returns Inv-loop μ-loop
-returns c = search needs
-
 pub objects-spec : {M : Type 1} → statement M
 objects-spec =
     tie.close
-    (tie.spec
-    Inv-loop
-    μ-loop
-    loop-holds
-    find-tag-requires
-    enum-known-b
-    object-requires
-    add-k
-    loop-less
-    loop-again
-    enum-told
-    returns)
+    (tie.spec Inv-loop μ-loop loop-holds (λ c κs. search needs) (λ c. search needs) object-requires add-k loop-less loop-again
+    (λ c. search needs) (λ c. search needs))

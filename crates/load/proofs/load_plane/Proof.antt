@@ -1,7 +1,6 @@
 -- `load::load_plane` meets its contract. Assumes nothing.
-use Rattle.load.proofs.LoadLaws.{found-passes}
 use Rattle.load.specs.Load.{mask, loadedPlane}
-use Rattle.room.specs.Test.{planeIn}
+use Rattle.room.proofs.PictureLaws.{found-passes}
 use Rattle.block.proofs.Laws.{nth-at}
 use native.Mathlib.Omega.{arith}
 use mathlib.Core.Path.{sym, _∙_}
@@ -16,14 +15,13 @@ enum-known-b : tie.Need-enum-known-b
 enum-known-b c = search needs
 
 paint-plane-requires : tie.Need-paint-plane-requires
-unfolding planeIn
 paint-plane-requires c κs =
     let start = c .before .before .before .before .before .before .before .before in
     let sound = start .pre .0 .0 in
     let at = sym (c .before .before .b .given .1) ∙ c .before .before .before .before .plane-in .ensures in
     let in-room = nth-at _ _ _ _ _ _ _ at in (
       (omega arith, sound .highest, omega (arith, in-room), omega (arith, in-room, sound .image-last)),
-      (found-passes _ _ _ _ _ at (start .pre .1 .0), (sound .few, start .pre .0 .1, start .pre .0 .2, start .pre .1 .1)),
+      (found-passes _ _ _ _ _ _ _ _ at (start .pre .1 .0), (sound .few, start .pre .0 .1, start .pre .0 .2, start .pre .1 .1)),
     )
 
 enum-told : tie.Need-enum-told

@@ -47,14 +47,4 @@ returns-2 c = sym (end-none _ _ _ _ _ _ (omega arith)) ∙ c .before .loop .inv 
 pub body-end-spec : {M : Type 1} → statement M
 body-end-spec =
     tie.close
-    (tie.spec
-    Inv-loop
-    μ-loop
-    loop-holds
-    offset-at-requires
-    add-result
-    returns
-    add-j
-    loop-less
-    loop-again
-    returns-2)
+    (tie.spec Inv-loop μ-loop loop-holds offset-at-requires add-result returns add-j loop-less loop-again returns-2)

@@ -4,28 +4,10 @@ use borrow.Author.Needs.{needs}
 use Rattle.table.proofs.offset_at.Statement.{statement}
 use Rattle.table.proofs.offset_at.Tie as tie
 
-add-read-le16 : tie.Need-add-read-le16
-add-read-le16 c = search needs
-
-mul-read-le16 : tie.Need-mul-read-le16
-mul-read-le16 c = search needs
-
-add-read-le16-2 : tie.Need-add-read-le16-2
-add-read-le16-2 c = search needs
-
 read-le16-requires : tie.Need-read-le16-requires
 read-le16-requires c κs =
     let room = rw (c .if1 .taken) at (c .before .before .pre .0) in
     omega arith
-
-add-read-le32 : tie.Need-add-read-le32
-add-read-le32 c = search needs
-
-mul-read-le32 : tie.Need-mul-read-le32
-mul-read-le32 c = search needs
-
-add-read-le32-2 : tie.Need-add-read-le32-2
-add-read-le32-2 c = search needs
 
 read-le32-requires : tie.Need-read-le32-requires
 read-le32-requires c κs =
@@ -43,14 +25,5 @@ returns-2 c = (rw (c .before .if1 .left) (c .read-le32 .ensures .0), omega arith
 pub offset-at-spec : {M : Type 1} → statement M
 offset-at-spec =
     tie.close
-    (tie.spec
-    add-read-le16
-    mul-read-le16
-    add-read-le16-2
-    read-le16-requires
-    add-read-le32
-    mul-read-le32
-    add-read-le32-2
-    read-le32-requires
-    returns
-    returns-2)
+    (tie.spec (λ c. search needs) (λ c. search needs) (λ c. search needs) read-le16-requires (λ c. search needs) (λ c. search needs)
+    (λ c. search needs) read-le32-requires returns returns-2)

@@ -12,23 +12,11 @@ use Rattle.table.proofs.read_rows.Tie as tie
 offset-at-requires : tie.Need-offset-at-requires
 offset-at-requires c κs = (cell-room true _ _ _ _ _ (c .before .before .pre .1 .0) (c .before .before .pre .0 .0) (omega arith) (omega arith), omega arith)
 
-fill-requires : tie.Need-fill-requires
-fill-requires c κs = search needs
-
-same-length : tie.Need-same-length
-same-length c = search needs
-
 returns : tie.Need-returns
 returns c = zero-rows _ _ _ _ _ _ _ _ (sym (c .before .before .before .before .before .offset-at .ensures .0) ∙ c .before .before .before .before .if1 .taken) (c .before .before .fill .ensures .0) (c .before .before .fill .ensures .1)
 
 strip-body-requires : tie.Need-strip-body-requires
 strip-body-requires c κs = (c .before .before .before .before .pre .0, (c .before .before .before .before .pre .1 .0, ne-eqb _ _ (λ e. c .if1 .left (c .before .offset-at .ensures .0 ∙ e))))
-
-mask-rows-requires : tie.Need-mask-rows-requires
-mask-rows-requires c κs = search needs
-
-same-length-2 : tie.Need-same-length-2
-same-length-2 c = search needs
 
 returns-2 : tie.Need-returns-2
 unfolding rowsAt
@@ -37,12 +25,5 @@ returns-2 c = rw (ne-eqb _ _ (λ e. c .before .before .before .before .before .i
 pub read-rows-spec : {M : Type 1} → statement M
 read-rows-spec =
     tie.close
-    (tie.spec
-    offset-at-requires
-    fill-requires
-    same-length
-    returns
-    strip-body-requires
-    mask-rows-requires
-    same-length-2
-    returns-2)
+    (tie.spec offset-at-requires (λ c κs. search needs) (λ c. search needs) returns strip-body-requires (λ c κs. search needs)
+    (λ c. search needs) returns-2)

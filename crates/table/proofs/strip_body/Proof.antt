@@ -10,12 +10,6 @@ use Rattle.table.proofs.strip_body.Tie as tie
 offset-at-requires : tie.Need-offset-at-requires
 offset-at-requires c κs = (cell-room _ _ _ _ _ _ (c .before .pre .1 .0) (c .before .pre .0 .0) (omega arith) (omega arith), omega arith)
 
-add-start : tie.Need-add-start
-add-start c = search needs
-
-add-body-end : tie.Need-add-body-end
-add-body-end c = search needs
-
 body-end-requires : tie.Need-body-end-requires
 body-end-requires c κs = (omega arith, omega arith, omega (arith, table-room _ _ _ _ _ (c .before .before .pre .1 .0)), omega arith)
 
@@ -41,12 +35,5 @@ returns c = rw (← c .before .before .offset-at .ensures .0, ← c .before .bod
 pub strip-body-spec : {M : Type 1} → statement M
 strip-body-spec =
     tie.close
-    (tie.spec
-    offset-at-requires
-    add-start
-    add-body-end
-    body-end-requires
-    sub-result
-    part-result-start
-    part-result-end
+    (tie.spec offset-at-requires (λ c. search needs) (λ c. search needs) body-end-requires sub-result part-result-start part-result-end
     returns)

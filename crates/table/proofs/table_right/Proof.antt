@@ -17,9 +17,6 @@ abbrev μ-loop : tie.MeasureT-loop
 sub-size : tie.Need-sub-size Inv-loop μ-loop
 sub-size c = omega arith
 
-table-end-requires : tie.Need-table-end-requires Inv-loop μ-loop
-table-end-requires c κs = search needs
-
 returns : tie.Need-returns Inv-loop μ-loop
 returns c = table-short _ _ _ _ _ _ (c .before .table-end .ensures) (c .if1 .taken)
 
@@ -43,9 +40,6 @@ loop-again c =
     let more : c .before .before .before .before .before .before .before .args .n - c .before .before .before .loop .k ≡ suc (c .before .before .before .before .before .before .before .args .n - (c .before .before .before .loop .k + 1)) = omega arith in
     (omega arith, sym (offsets-pass _ _ _ _ _ _ _ _ _ _ more (c .before .offset-at .ensures .0) (c .if2 .taken)) ∙ c .before .before .before .loop .inv .1)
 
-offset-right-requires : tie.Need-offset-right-requires Inv-loop μ-loop
-offset-right-requires c κs = search needs
-
 add-k-2 : tie.Need-add-k-2 Inv-loop μ-loop
 add-k-2 c = omega arith
 
@@ -68,20 +62,5 @@ returns-3 c = sym (offsets-none _ _ _ _ _ _ _ _ (omega arith)) ∙ c .before .lo
 pub table-right-spec : {M : Type 1} → statement M
 table-right-spec =
     tie.close
-    (tie.spec
-    Inv-loop
-    μ-loop
-    sub-size
-    table-end-requires
-    returns
-    loop-holds
-    offset-at-requires
-    add-k
-    loop-less
-    loop-again
-    offset-right-requires
-    add-k-2
-    loop-less-2
-    loop-again-2
-    returns-2
-    returns-3)
+    (tie.spec Inv-loop μ-loop sub-size (λ c κs. search needs) returns loop-holds offset-at-requires add-k loop-less loop-again
+    (λ c κs. search needs) add-k-2 loop-less-2 loop-again-2 returns-2 returns-3)

@@ -31,9 +31,6 @@ test-strip-requires c κs =
     let a = c .before .before .before .before .before .args in
     ((c .before .before .before .before .before .pre .0, c .loop-test .taken, c .before .before .before .before .before .pre .1, c .before .before .before .before .before .pre .2, c .before .before .before .before .before .pre .3), sym (c .before .before .before .table-right .ensures) ∙ not-false _ (c .before .before .if1 .left))
 
-enum-told : tie.Need-enum-told Inv-loop μ-loop
-enum-told c = search needs
-
 add-k : tie.Need-add-k Inv-loop μ-loop
 add-k c = omega arith
 
@@ -44,9 +41,6 @@ loop-again : tie.Need-loop-again Inv-loop μ-loop
 loop-again c =
     let more : c .before .before .before .before .before .before .before .before .args .n - c .before .before .before .before .loop .k ≡ suc (c .before .before .before .before .before .before .before .before .args .n - (c .before .before .before .before .loop .k + 1)) = omega arith in
     (omega arith, sym (leftmost-pass _ _ _ _ more (sym (c .before .before .test-strip .ensures) ∙ c .enum-told .given .1)) ∙ c .before .before .before .before .loop .inv .1)
-
-enum-known-number : tie.Need-enum-known-number Inv-loop μ-loop
-enum-known-number c = search needs
 
 returns-2 : tie.Need-returns-2 Inv-loop μ-loop
 returns-2 c =
@@ -59,17 +53,5 @@ returns-3 c = sym (leftmost-none _ _ _ (omega arith)) ∙ c .before .loop .inv .
 pub test-block-spec : {M : Type 1} → statement M
 test-block-spec =
     tie.close
-    (tie.spec
-    Inv-loop
-    μ-loop
-    table-right-requires
-    returns
-    loop-holds
-    test-strip-requires
-    enum-told
-    add-k
-    loop-less
-    loop-again
-    enum-known-number
-    returns-2
-    returns-3)
+    (tie.spec Inv-loop μ-loop table-right-requires returns loop-holds test-strip-requires (λ c. search needs) add-k loop-less loop-again
+    (λ c. search needs) returns-2 returns-3)

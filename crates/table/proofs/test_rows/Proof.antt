@@ -25,15 +25,6 @@ returns c =
 strip-body-requires : tie.Need-strip-body-requires
 strip-body-requires c κs = (omega arith, (c .before .before .before .pre .1, ne-eqb _ _ (λ e. c .if1 .left (c .before .offset-at .ensures .0 ∙ e))))
 
-test-rows-requires : tie.Need-test-rows-requires
-test-rows-requires c κs = search needs
-
-enum-told : tie.Need-enum-told
-enum-told c = search needs
-
-enum-known-number : tie.Need-enum-known-number
-enum-known-number c = search needs
-
 returns-2 : tie.Need-returns-2
 returns-2 c =
     let a = c .before .before .before .before .before .before .before .args in
@@ -51,12 +42,5 @@ returns-3 c =
 pub test-rows-spec : {M : Type 1} → statement M
 test-rows-spec =
     tie.close
-    (tie.spec
-    offset-at-requires
-    returns
-    strip-body-requires
-    test-rows-requires
-    enum-told
-    enum-known-number
-    returns-2
+    (tie.spec offset-at-requires returns strip-body-requires (λ c κs. search needs) (λ c. search needs) (λ c. search needs) returns-2
     returns-3)

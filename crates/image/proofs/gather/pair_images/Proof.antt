@@ -20,9 +20,6 @@ loop-holds c = pair-none _ _ _
 find-tag-requires : tie.Need-find-tag-requires Inv-loop μ-loop
 find-tag-requires c κs = omega arith
 
-enum-known-b : tie.Need-enum-known-b Inv-loop μ-loop
-enum-known-b c = search needs
-
 offer-image-requires : tie.Need-offer-image-requires Inv-loop μ-loop
 offer-image-requires c κs =
     let i = nth-at _ _ _ _ 0 _ _ (sym (c .before .before .b .given .1) ∙ c .before .before .before .before .find-tag .ensures) in
@@ -36,9 +33,6 @@ loop-less c =
 loop-again : tie.Need-loop-again Inv-loop μ-loop
 loop-again c = pair-more _ _ _ _ _ _ _ _ (c .before .before .before .before .before .before .before .before .loop .inv) (sym (c .before .before .before .before .before .b .given .1) ∙ c .before .before .before .before .before .before .before .find-tag .ensures) (c .before .before .offer-image .ensures)
 
-enum-told : tie.Need-enum-told Inv-loop μ-loop
-enum-told c = search needs
-
 same-length : tie.Need-same-length Inv-loop μ-loop
 same-length c = c .before .before .before .loop .inv .same
 
@@ -48,15 +42,5 @@ returns c = pair-all _ _ _ _ _ (c .before .before .before .loop .inv) (sym (c .e
 pub pair-images-spec : {M : Type 1} → statement M
 pair-images-spec =
     tie.close
-    (tie.spec
-    Inv-loop
-    μ-loop
-    loop-holds
-    find-tag-requires
-    enum-known-b
-    offer-image-requires
-    loop-less
-    loop-again
-    enum-told
-    same-length
-    returns)
+    (tie.spec Inv-loop μ-loop loop-holds find-tag-requires (λ c. search needs) offer-image-requires loop-less loop-again (λ c. search needs)
+    same-length returns)

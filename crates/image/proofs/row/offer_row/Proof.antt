@@ -68,24 +68,5 @@ returns c = offer-all _ _ _ (c .before .loop .o) _ (omega arith) (c .before .loo
 pub offer-row-spec : {M : Type 1} → statement M
 offer-row-spec =
     tie.close
-    (tie.spec
-    Inv-loop
-    μ-loop
-    loop-holds
-    element-copy-out-if1
-    mul-if1
-    mul-if1-2
-    slice-read-if1
-    mul-if1-3
-    add-if1
-    mul-if1-4
-    slice-read-if1-2
-    put-row-requires
-    add-o
-    loop-less
-    loop-again
-    add-o-2
-    loop-less-2
-    loop-again-2
-    same-length
-    returns)
+    (tie.spec Inv-loop μ-loop loop-holds element-copy-out-if1 mul-if1 mul-if1-2 slice-read-if1 mul-if1-3 add-if1 mul-if1-4 slice-read-if1-2
+    put-row-requires add-o loop-less loop-again add-o-2 loop-less-2 loop-again-2 same-length returns)

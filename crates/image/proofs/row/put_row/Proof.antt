@@ -53,18 +53,5 @@ returns c =
 pub put-row-spec : {M : Type 1} → statement M
 put-row-spec =
     tie.close
-    (tie.spec
-    Inv-loop
-    μ-loop
-    mul-at
-    loop-holds
-    mul-table
-    element-copy-out-table
-    add-table
-    mul-table-2
-    slice-write-table
-    add-c
-    loop-less
-    loop-again
-    same-length
-    returns)
+    (tie.spec Inv-loop μ-loop mul-at loop-holds mul-table element-copy-out-table add-table mul-table-2 slice-write-table add-c loop-less
+    loop-again same-length returns)

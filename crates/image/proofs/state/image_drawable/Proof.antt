@@ -38,9 +38,6 @@ shared-slice-read-state-right c =
 cast-state-right : tie.Need-cast-state-right
 cast-state-right c = omega (arith, c .shared-slice-known3 .given (8 * c .before .before .before .before .args .o + 5))
 
-state-right-requires : tie.Need-state-right-requires
-state-right-requires c κs = search needs
-
 returns-2 : tie.Need-returns-2
 returns-2 c =
     let a = c .before .before .before .before .before .before .args in
@@ -52,12 +49,6 @@ state-block-requires c κs =
     let a = c .before .before .before .before .before .before .args in
     let i = object-right (now (c .before .before .before .before .before .before .args .room)) (c .before .before .before .before .before .before .args .o) (an-object _ _ (c .before .before .before .before .before .before .pre .1) (c .before .before .before .before .before .before .args .o) (c .before .before .before .if1 .left)) in
     (c .before .before .before .before .before .before .pre .0, i .0, i .1, state-bound _ _ (sym (c .before .state-right .ensures) ∙ not-false _ (c .if2 .left)))
-
-enum-told : tie.Need-enum-told
-enum-told c = search needs
-
-enum-told-2 : tie.Need-enum-told-2
-enum-told-2 c = search needs
 
 returns-3 : tie.Need-returns-3
 returns-3 c =
@@ -74,17 +65,5 @@ returns-4 c =
 pub image-drawable-spec : {M : Type 1} → statement M
 image-drawable-spec =
     tie.close
-    (tie.spec
-    returns
-    mul-state-right
-    add-state-right
-    mul-state-right-2
-    shared-slice-read-state-right
-    cast-state-right
-    state-right-requires
-    returns-2
-    state-block-requires
-    enum-told
-    enum-told-2
-    returns-3
-    returns-4)
+    (tie.spec returns mul-state-right add-state-right mul-state-right-2 shared-slice-read-state-right cast-state-right
+    (λ c κs. search needs) returns-2 state-block-requires (λ c. search needs) (λ c. search needs) returns-3 returns-4)

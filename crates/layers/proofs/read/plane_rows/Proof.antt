@@ -7,11 +7,8 @@ use borrow.Author.Needs.{needs}
 use Rattle.layers.proofs.read.plane_rows.Statement.{statement}
 use Rattle.layers.proofs.read.plane_rows.Tie as tie
 
-add-find-tag : tie.Need-add-find-tag
-add-find-tag c = search needs
-
-find-tag-requires : tie.Need-find-tag-requires
-find-tag-requires c κs = search needs
+plane-in-requires : tie.Need-plane-in-requires
+plane-in-requires c κs = search needs
 
 enum-known-b : tie.Need-enum-known-b
 enum-known-b c = search needs
@@ -20,7 +17,7 @@ read-rows-requires : tie.Need-read-rows-requires
 read-rows-requires c κs =
     let start = c .before .before .before .before .before .before .before in
     let p = start .pre .0 in
-    let at = sym (c .before .before .b .given .1) ∙ c .before .before .before .before .find-tag .ensures in
+    let at = sym (c .before .before .b .given .1) ∙ c .before .before .before .before .plane-in .ensures in
     let in-room = nth-at _ _ _ _ _ _ _ at in (
       (p .1, p .0 .narrow, omega (arith, in-room), omega (arith, in-room, p .0 .payload-last)),
       (plane-table _ (start .args .m) _ _ (p .1) (start .pre .1) _ _ at, p .3),
@@ -38,7 +35,7 @@ same-length c = search needs
 returns : tie.Need-returns
 returns c =
     let start = c .before .before .before .before .before .before .before .before .before .before in
-    let at = sym (c .before .before .before .before .before .b .given .1) ∙ c .before .before .before .before .before .before .before .find-tag .ensures in
+    let at = sym (c .before .before .before .before .before .b .given .1) ∙ c .before .before .before .before .before .before .before .plane-in .ensures in
     let read = c .before .before .read-rows in
     rows-read _ (start .args .m) _ _ (start .pre .0 .1) (start .pre .1) _ _ at _ _ (read .result) (read .ensures)
 
@@ -48,15 +45,14 @@ same-length-2 c = search needs
 returns-2 : tie.Need-returns-2
 returns-2 c =
     let start = c .before .before .before .before .before .before .before .before .before in
-    let none = sym (c .before .before .before .before .enum-told .given .1) ∙ c .before .before .before .before .before .before .find-tag .ensures in
+    let none = sym (c .before .before .before .before .enum-told .given .1) ∙ c .before .before .before .before .before .before .plane-in .ensures in
     rows-zero _ (start .args .m) _ _ (start .pre .0 .1) (start .pre .1) none _ (c .before .before .fill .ensures .0)
 
 pub plane-rows-spec : {M : Type 1} → statement M
 plane-rows-spec =
     tie.close
     (tie.spec
-    add-find-tag
-    find-tag-requires
+    plane-in-requires
     enum-known-b
     read-rows-requires
     enum-told

@@ -7,7 +7,7 @@ use lib.ListN.{length}
 use Rattle.grid.specs.Grid.{upd, boxed}
 use Rattle.grid.proofs.Box.{box-thin, box-beside}
 use Rattle.table.specs.Body.{maskAt}
-use Rattle.load.proofs.BlockLaws.{block-table, block-strip}
+use Rattle.table.proofs.BlockLaws.{block-table, block-strip}
 use Rattle.load.proofs.paint.paint_plane.Statement.{statement}
 use Rattle.load.proofs.paint.paint_plane.Tie as tie
 

@@ -1,58 +1,23 @@
-use Rattle.objects.proofs.NameLaws.{name-at}
+use Rattle.objects.specs.Name.{namePlace}
+use Rattle.objects.proofs.NameLaws.{part-bytes}
+use lib.ListN.{take, drop}
+use denote.Ref.{now}
 use native.Mathlib.Omega.{arith}
-use Prim.Native.Nat.{_-_}
-use mathlib.Core.Path.{sym, _∙_}
+use Prim.Native.Nat.{_+_, _-_}
+use mathlib.Core.Path.{_≡_, _∙_}
 use borrow.Author.Needs.{needs}
 use Rattle.objects.proofs.name.name.Statement.{statement}
 use Rattle.objects.proofs.name.name.Tie as tie
 
-name-place-requires : tie.Need-name-place-requires
-name-place-requires c κs = search needs
-
-enum-known-a : tie.Need-enum-known-a
-enum-known-a c = search needs
-
-sub-result : tie.Need-sub-result
-sub-result c =
-    let i = name-at _ _ _ _ (sym (c .before .a .given .1) ∙ c .before .before .before .name-place .ensures) in
-    omega arith
-
-part-result-start : tie.Need-part-result-start
-part-result-start c =
-    let i = name-at _ _ _ _ (sym (c .before .a .given .1) ∙ c .before .before .before .name-place .ensures) in
-    omega arith
-
-part-result-end : tie.Need-part-result-end
-part-result-end c =
-    let i = name-at _ _ _ _ (sym (c .before .a .given .1) ∙ c .before .before .before .name-place .ensures) in
-    omega arith
-
-enum-told : tie.Need-enum-told
-enum-told c = search needs
-
-slice-aggregate-result : tie.Need-slice-aggregate-result
-slice-aggregate-result c = search needs
-
 returns : tie.Need-returns
 returns c =
-    let at = sym (c .before .before .a .given .1) ∙ c .before .before .before .before .name-place .ensures in
-    rw (← at)
-
-returns-2 : tie.Need-returns-2
-returns-2 c =
-    let none = sym (c .before .enum-told .given .1) ∙ c .before .before .before .name-place .ensures in
-    rw (← none)
+    let a = c .before .before .before .before .args in
+    let part = c .before .before .name-part .result in
+    let is = c .before .before .name-part .ensures .0 in
+    let size : part .start + part .count - part .start ≡ part .count = omega arith in
+    rw size ((λ i. take (is i .count) (drop (is i .start) (now (a .s)))) ∙ part-bytes (now (a .s)) (namePlace (now (a .s)) (a .object)))
 
 pub name-spec : {M : Type 1} → statement M
 name-spec =
     tie.close
-    (tie.spec
-    name-place-requires
-    enum-known-a
-    sub-result
-    part-result-start
-    part-result-end
-    enum-told
-    slice-aggregate-result
-    returns
-    returns-2)
+    (tie.spec (λ c κs. search needs) (λ c. search needs) (λ c. search needs) (λ c. search needs) (λ c. search needs) returns)

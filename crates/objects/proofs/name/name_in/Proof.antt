@@ -7,22 +7,10 @@ use borrow.Author.Needs.{needs}
 use Rattle.objects.proofs.name.name_in.Statement.{statement}
 use Rattle.objects.proofs.name.name_in.Tie as tie
 
-add-need-tag : tie.Need-add-need-tag
-add-need-tag c = search needs
-
-need-tag-requires : tie.Need-need-tag-requires
-need-tag-requires c κs = search needs
-
-enum-known-p : tie.Need-enum-known-p
-enum-known-p c = search needs
-
 nul-from-requires : tie.Need-nul-from-requires
 nul-from-requires c κs =
     let i = need-at _ _ _ _ _ _ _ (sym (c .before .p .given .1) ∙ c .before .before .before .need-tag .ensures) in
     omega arith
-
-enum-told : tie.Need-enum-told
-enum-told c = search needs
 
 returns : tie.Need-returns
 unfolding nameIn beforeNul
@@ -39,11 +27,4 @@ returns-2 c =
 pub name-in-spec : {M : Type 1} → statement M
 name-in-spec =
     tie.close
-    (tie.spec
-    add-need-tag
-    need-tag-requires
-    enum-known-p
-    nul-from-requires
-    enum-told
-    returns
-    returns-2)
+    (tie.spec (λ c. search needs) (λ c κs. search needs) (λ c. search needs) nul-from-requires (λ c. search needs) returns returns-2)

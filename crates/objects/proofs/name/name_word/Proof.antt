@@ -1,54 +1,19 @@
-use Rattle.objects.proofs.NameLaws.{name-at}
-use native.Mathlib.Omega.{arith}
-use Prim.Native.Nat.{_-_}
-use mathlib.Core.Path.{sym, _∙_}
+use Rattle.objects.specs.Name.{namePlace}
+use Rattle.objects.proofs.NameLaws.{part-word}
+use denote.Ref.{now}
+use Prim.Native.Nat.{_+_, _*_}
+use mathlib.Core.Path.{_∙_}
 use borrow.Author.Needs.{needs}
 use Rattle.objects.proofs.name.name_word.Statement.{statement}
 use Rattle.objects.proofs.name.name_word.Tie as tie
 
-name-place-requires : tie.Need-name-place-requires
-name-place-requires c κs = search needs
-
-enum-known-a : tie.Need-enum-known-a
-enum-known-a c = search needs
-
-sub-result : tie.Need-sub-result
-sub-result c =
-    let i = name-at _ _ _ _ (sym (c .before .a .given .1) ∙ c .before .before .before .name-place .ensures) in
-    omega arith
-
-mul-result : tie.Need-mul-result
-mul-result c =
-    let i = name-at _ _ _ _ (sym (c .before .a .given .1) ∙ c .before .before .before .name-place .ensures) in
-    omega arith
-
-add-result : tie.Need-add-result
-add-result c =
-    let i = name-at _ _ _ _ (sym (c .before .a .given .1) ∙ c .before .before .before .name-place .ensures) in
-    omega arith
-
-enum-told : tie.Need-enum-told
-enum-told c = search needs
-
 returns : tie.Need-returns
 returns c =
-    let at = sym (c .before .a .given .1) ∙ c .before .before .before .name-place .ensures in
-    rw (← at)
-
-returns-2 : tie.Need-returns-2
-returns-2 c =
-    let none = sym (c .enum-told .given .1) ∙ c .before .before .name-place .ensures in
-    rw (← none)
+    let a = c .before .before .before .before .args in
+    let is = c .before .before .name-part .ensures .0 in
+    (λ i. is i .start + is i .count * 4294967296) ∙ part-word (namePlace (now (a .s)) (a .object))
 
 pub name-word-spec : {M : Type 1} → statement M
 name-word-spec =
     tie.close
-    (tie.spec
-    name-place-requires
-    enum-known-a
-    sub-result
-    mul-result
-    add-result
-    enum-told
-    returns
-    returns-2)
+    (tie.spec (λ c κs. search needs) (λ c. search needs) (λ c. search needs) returns)

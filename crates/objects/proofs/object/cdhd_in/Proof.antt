@@ -4,18 +4,6 @@ use borrow.Author.Needs.{needs}
 use Rattle.objects.proofs.object.cdhd_in.Statement.{statement}
 use Rattle.objects.proofs.object.cdhd_in.Tie as tie
 
-add-need-tag : tie.Need-add-need-tag
-add-need-tag c = search needs
-
-need-tag-requires : tie.Need-need-tag-requires
-need-tag-requires c κs = search needs
-
-enum-known-p : tie.Need-enum-known-p
-enum-known-p c = search needs
-
-enum-told : tie.Need-enum-told
-enum-told c = search needs
-
 returns : tie.Need-returns
 returns c =
     let p = sym (c .before .p .given .1) ∙ c .before .before .before .need-tag .ensures in
@@ -28,4 +16,5 @@ returns-2 c =
 
 pub cdhd-in-spec : {M : Type 1} → statement M
 cdhd-in-spec =
-    tie.close (tie.spec add-need-tag need-tag-requires enum-known-p enum-told returns returns-2)
+    tie.close
+    (tie.spec (λ c. search needs) (λ c κs. search needs) (λ c. search needs) (λ c. search needs) returns returns-2)

@@ -9,15 +9,11 @@ returns : tie.Need-returns
 unfolding objectBlock
 returns c = rw (eq-eqb _ _ (c .if1 .taken))
 
-sub-nth-tag : tie.Need-sub-nth-tag
-sub-nth-tag c = search needs
-
-nth-tag-requires : tie.Need-nth-tag-requires
-nth-tag-requires c κs = search needs
-
 returns-2 : tie.Need-returns-2
 unfolding objectBlock
 returns-2 c = rw (ne-eqb _ _ (c .before .if1 .left)) (c .nth-tag .ensures)
 
 pub object-block-spec : {M : Type 1} → statement M
-object-block-spec = tie.close (tie.spec returns sub-nth-tag nth-tag-requires returns-2)
+object-block-spec =
+    tie.close
+    (tie.spec returns (λ c. search needs) (λ c κs. search needs) returns-2)

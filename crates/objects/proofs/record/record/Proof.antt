@@ -10,21 +10,6 @@ use borrow.Author.Needs.{needs}
 use Rattle.objects.proofs.record.record.Statement.{statement}
 use Rattle.objects.proofs.record.record.Tie as tie
 
-fixed-lent-requires : tie.Need-fixed-lent-requires
-fixed-lent-requires c κs = search needs
-
-test-room-requires : tie.Need-test-room-requires
-test-room-requires c κs = search needs
-
-enum-known-r : tie.Need-enum-known-r
-enum-known-r c = search needs
-
-record-bytes-requires : tie.Need-record-bytes-requires
-record-bytes-requires c κs = search needs
-
-slice-aggregate-put-front : tie.Need-slice-aggregate-put-front
-slice-aggregate-put-front c = search needs
-
 put-front-requires : tie.Need-put-front-requires
 unfolding recordBytes
 put-front-requires c κs =
@@ -33,15 +18,6 @@ put-front-requires c κs =
     let size : length (c .before .before .record-bytes .result) ≡ 16 = ap length (c .before .before .record-bytes .ensures) in
     let room : length (c .before .before .record-bytes .result) ≤ length (now (c .before .before .before .before .before .before .before .before .before .before .args .out)) = omega arith in
     room
-
-enum-known-number : tie.Need-enum-known-number
-enum-known-number c = search needs
-
-cast-result : tie.Need-cast-result
-cast-result c = search needs
-
-same-length : tie.Need-same-length
-same-length c = search needs
 
 returns : tie.Need-returns
 returns c =
@@ -56,15 +32,5 @@ returns-2 c =
 pub record-spec : {M : Type 1} → statement M
 record-spec =
     tie.close
-    (tie.spec
-    fixed-lent-requires
-    test-room-requires
-    enum-known-r
-    record-bytes-requires
-    slice-aggregate-put-front
-    put-front-requires
-    enum-known-number
-    cast-result
-    same-length
-    returns
-    returns-2)
+    (tie.spec (λ c κs. search needs) (λ c κs. search needs) (λ c. search needs) (λ c κs. search needs) (λ c. search needs)
+    put-front-requires (λ c. search needs) (λ c. search needs) (λ c. search needs) returns returns-2)

@@ -2,83 +2,44 @@ use Rattle.point.proofs.CallLaws.{asked-wrong, asked-right-of, asked-be
 use Rattle.point.specs.Call.{asked}
 use native.Mathlib.Omega.{arith}
 use denote.Ref.{now}
-use mathlib.Core.Path.{_≡_, sym, ap, _∙_}
+use mathlib.Core.Path.{_∙_}
 use borrow.Author.Needs.{needs}
 use Rattle.point.proofs.call.ask.Statement.{statement}
 use Rattle.point.proofs.call.ask.Tie as tie
-use Rattle.point.proofs.call.ask.Reads as reads
-use Rattle.point.proofs.call.ask.Lts as lts
-use Rattle.verdict.proofs.size.size_of.Reads as size-of-reads
-use Rattle.verdict.proofs.judge.judge_history.Reads as judge-history-reads
-use Rattle.point.proofs.call.answer.Reads as answer-reads
-use Rattle.point.proofs.call.seek.Reads as seek-reads
-use Rattle.session.proofs.plan.valid_shown.Reads as valid-shown-reads
-use Rattle.number.proofs.wide_u32.Reads as wide-u32-reads
 
--- src/call.rt:77:44
-slice-aggregate-judge-history : tie.Need-slice-aggregate-judge-history
-slice-aggregate-judge-history c = search needs
-
--- src/call.rt:77:5
 judge-history-requires : tie.Need-judge-history-requires
 judge-history-requires c κs = (c .before .before .before .before .before .pre .0, (c .before .before .before .before .before .pre .1 .0, omega arith))
 
--- src/call.rt:78:9
-size-of-requires : tie.Need-size-of-requires
-size-of-requires c κs = search needs
-
--- src/call.rt:79:41
-slice-aggregate-valid-shown : tie.Need-slice-aggregate-valid-shown
-slice-aggregate-valid-shown c = search needs
-
--- src/call.rt:79:9
 valid-shown-requires : tie.Need-valid-shown-requires
 valid-shown-requires c κs =
     let sound = c .before .before .before .before .before .before .before .before .before .pre .0 .0 .sound in
     let e = c .before .size-of .ensures in
     (c .before .before .before .before .before .before .before .before .before .pre .1 .0, c .before .before .before .before .before .before .before .before .before .pre .0 .0 .gathered .long, omega (arith, c .before .before .before .judge-history .kept .1 .1 .1 .1 .0), rw e (omega (arith, sound .widest), sound .highest, sound .counted))
 
--- src/call.rt:81:9
 returns : tie.Need-returns
 returns c =
     let a = c .before .before .before .before .before .before .before .before .before .before .before .before .args in
     let v = c .before .before .before .before .before .before .judge-history .last .1 .1 .1 .1 .0 in
     asked-wrong (now (a .room)) (a .r) (now (a .table)) v (now (a .session)) (now (a .flags)) (a .x) (a .y) (c .before .before .before .before .before .before .judge-history .ensures) (c .before .before .valid-shown .result) (rw (c .before .before .before .before .size-of .ensures) at (c .before .before .valid-shown .ensures .plan)) (c .if1 .taken)
 
--- src/call.rt:83:9
-wide-u32-requires : tie.Need-wide-u32-requires
-wide-u32-requires c κs = search needs
-
--- src/call.rt:84:9
-wide-u32-requires-2 : tie.Need-wide-u32-requires-2
-wide-u32-requires-2 c κs = search needs
-
--- src/call.rt:86:9
 returns-2 : tie.Need-returns-2
 returns-2 c =
     let a = c .before .before .before .before .before .before .before .before .before .before .before .before .before .before .before .before .args in
     let v = c .before .before .before .before .before .before .before .before .before .before .judge-history .last .1 .1 .1 .1 .0 in
     asked-right-of (now (a .room)) (a .r) (now (a .table)) v (now (a .session)) (now (a .flags)) (a .x) (a .y) (c .before .before .before .before .before .before .before .before .before .before .judge-history .ensures) (c .before .before .before .before .before .before .valid-shown .result) (rw (c .before .before .before .before .before .before .before .before .size-of .ensures) at (c .before .before .before .before .before .before .valid-shown .ensures .plan)) (c .before .before .before .before .if1 .left) (omega (arith, c .before .before .before .wide-u32 .ensures .0, c .if2 .taken))
 
--- src/call.rt:89:9
 returns-3 : tie.Need-returns-3
 returns-3 c =
     let a = c .before .before .before .before .before .before .before .before .before .before .before .before .before .before .before .before .before .before .args in
     let v = c .before .before .before .before .before .before .before .before .before .before .before .before .judge-history .last .1 .1 .1 .1 .0 in
     asked-below (now (a .room)) (a .r) (now (a .table)) v (now (a .session)) (now (a .flags)) (a .x) (a .y) (c .before .before .before .before .before .before .before .before .before .before .before .before .judge-history .ensures) (c .before .before .before .before .before .before .before .before .valid-shown .result) (rw (c .before .before .before .before .before .before .before .before .before .before .size-of .ensures) at (c .before .before .before .before .before .before .before .before .valid-shown .ensures .plan)) (c .before .before .before .before .before .before .if1 .left) (omega (arith, c .before .before .before .before .before .wide-u32 .ensures .0, c .before .before .if2 .left)) (omega (arith, c .before .before .before .before .wide-u322 .ensures .0, c .if3 .taken))
 
--- src/call.rt:91:9
 seek-requires : tie.Need-seek-requires
 seek-requires c κs =
     let sound = c .before .before .before .before .before .before .before .before .before .before .before .before .before .before .before .before .before .before .pre .0 .0 .sound in
     let e = c .before .before .before .before .before .before .before .before .before .before .size-of .ensures in
     ((rw e (c .before .before .before .before .before .before .before .before .before .before .before .before .before .before .before .before .before .before .pre .0 .1), rw e (omega (arith, sound .widest), sound .highest, sound .counted), rw e (c .before .before .before .before .before .before .before .before .before .before .before .before .before .before .before .before .before .before .pre .1 .1)), (c .before .before .before .before .before .before .before .before .before .before .before .before .before .before .before .before .before .before .pre .1 .0, c .before .before .before .before .before .before .before .before .valid-shown .ensures .counted (c .before .before .before .before .before .before .if1 .left) .1, c .before .before .before .before .before .before .before .before .valid-shown .ensures .few))
 
--- src/call.rt:92:5
-answer-requires : tie.Need-answer-requires
-answer-requires c κs = search needs
-
--- src/call.rt:63:1
 returns-4 : tie.Need-returns-4
 returns-4 c =
     let a = c .before .before .before .before .before .before .before .before .before .before .before .before .before .before .before .before .before .before .before .before .args in
@@ -89,17 +50,5 @@ returns-4 c =
 pub ask-spec : {M : Type 1} → statement M
 ask-spec =
     tie.close
-    (tie.spec
-    slice-aggregate-judge-history
-    judge-history-requires
-    size-of-requires
-    slice-aggregate-valid-shown
-    valid-shown-requires
-    returns
-    wide-u32-requires
-    wide-u32-requires-2
-    returns-2
-    returns-3
-    seek-requires
-    answer-requires
-    returns-4)
+    (tie.spec (λ c. search needs) judge-history-requires (λ c κs. search needs) (λ c. search needs) valid-shown-requires returns
+    (λ c κs. search needs) (λ c κs. search needs) returns-2 returns-3 seek-requires (λ c κs. search needs) returns-4)

@@ -1,5 +1,4 @@
-use mathlib.Core.Path.{_∙_}
-use Prim.Native.Nat.{ℕ, suc, _≤_, _+_, _-_}
+use Prim.Native.Nat.{suc, _≤_, _+_, _-_}
 use mathlib.Core.Path.{_≡_, refl, ap}
 use native.Mathlib.Omega.{arith}
 use Rattle.stored.specs.Bytes.{down, stepAt}
@@ -8,9 +7,6 @@ use Rattle.point.specs.Tables.{hitIn}
 use Rattle.point.proofs.PointLaws.{lowest-hit, lowest-miss, lowest-none}
 use Rattle.point.proofs.hit.lowest_hit.Statement.{statement}
 use Rattle.point.proofs.hit.lowest_hit.Tie as tie
-use Rattle.point.proofs.hit.lowest_hit.Reads as reads
-use Rattle.point.proofs.hit.lowest_hit.Lts as lts
-use Rattle.point.proofs.hit.is_hit.Reads as is-hit-reads
 
 abbrev Inv-loop : tie.InvT-loop
 Inv-loop boxes states session flags size steps x y count o₀ o = (1 ≤ o) × (o ≤ count + 1) × (count ≡ size .count) × (lowest (hitIn boxes states size (down (stepAt session) steps) flags x y) 1 count ≡ lowest (hitIn boxes states size (down (stepAt session) steps) flags x y) o (suc count - o))
@@ -18,41 +14,33 @@ Inv-loop boxes states session flags size steps x y count o₀ o = (1 ≤ o) × (
 abbrev μ-loop : tie.MeasureT-loop
 μ-loop boxes states session flags size steps x y count o₀ o = count + 1 - o
 
--- src/hit.rt:82:5
 loop-holds : tie.Need-loop-holds Inv-loop μ-loop
 loop-holds c = (omega arith, omega arith, refl, ap (lowest _ 1) (omega arith))
 
--- src/hit.rt:83:12
 is-hit-requires : tie.Need-is-hit-requires Inv-loop μ-loop
 is-hit-requires c κs =
     let v = c .before .loop .inv in
     (c .before .before .before .before .before .before .pre .0, c .before .before .before .before .before .before .pre .1, c .before .before .before .before .before .before .pre .2, c .before .before .before .before .before .before .pre .3, c .before .before .before .before .before .before .pre .4, v .0, omega arith, c .before .before .before .before .before .before .pre .5)
 
--- src/hit.rt:84:20
 cast-result : tie.Need-cast-result Inv-loop μ-loop
 cast-result c = omega (arith, c .before .before .before .before .before .before .before .before .pre .3 .2)
 
--- src/hit.rt:84:13
 returns : tie.Need-returns Inv-loop μ-loop
 returns c =
     let v = c .before .before .before .loop .inv in
     lowest-hit _ _ _ (omega arith) (v .3) _ (c .before .is-hit .ensures) (c .if1 .taken)
 
--- src/hit.rt:86:9
 add-o : tie.Need-add-o Inv-loop μ-loop
 add-o c = omega (arith, c .before .before .before .before .before .before .before .before .pre .3 .2)
 
--- src/hit.rt:82:5
 loop-less : tie.Need-loop-less Inv-loop μ-loop
 loop-less c = omega arith
 
--- src/hit.rt:82:5
 loop-again : tie.Need-loop-again Inv-loop μ-loop
 loop-again c =
     let v = c .before .before .before .loop .inv in
     (omega arith, omega arith, v .2, lowest-miss _ _ _ (omega arith) (v .3) _ (c .before .is-hit .ensures) (c .if1 .left))
 
--- src/hit.rt:67:1
 returns-2 : tie.Need-returns-2 Inv-loop μ-loop
 returns-2 c =
     let v = c .before .loop .inv in
@@ -61,14 +49,4 @@ returns-2 c =
 pub lowest-hit-spec : {M : Type 1} → statement M
 lowest-hit-spec =
     tie.close
-    (tie.spec
-    Inv-loop
-    μ-loop
-    loop-holds
-    is-hit-requires
-    cast-result
-    returns
-    add-o
-    loop-less
-    loop-again
-    returns-2)
+    (tie.spec Inv-loop μ-loop loop-holds is-hit-requires cast-result returns add-o loop-less loop-again returns-2)

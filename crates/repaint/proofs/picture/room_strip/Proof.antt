@@ -2,8 +2,7 @@
 use native.Mathlib.Omega.{arith}
 use mathlib.Core.Path.{refl, sym, _∙_}
 use Rattle.load.proofs.LoadLaws.{background-passes, plane-passes}
-use Rattle.load.proofs.BlockLaws.{block-table, block-strip}
-use Rattle.image.proofs.FaultLaws.{room-plane}
+use Rattle.table.proofs.BlockLaws.{block-table, block-strip}
 use Rattle.layers.proofs.PaintLaws.{width-is, fresh-pixels, fresh-masks}
 use borrow.Author.Needs.{needs}
 use Rattle.repaint.proofs.picture.room_strip.Statement.{statement}
@@ -38,7 +37,7 @@ put-planes-requires c κs =
         },
         here,
       ),
-      ((λ p one le. sym (room-plane _ (start .args .r) p) ∙ plane-passes _ _ passed p one le), (here, omega arith, start .pre .1 .1)),
+      (plane-passes _ _ passed, (here, omega arith, start .pre .1 .1)),
     )
 
 same-length : tie.Need-same-length

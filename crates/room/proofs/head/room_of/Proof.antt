@@ -4,21 +4,6 @@ use borrow.Author.Needs.{needs}
 use Rattle.room.proofs.head.room_of.Statement.{statement}
 use Rattle.room.proofs.head.room_of.Tie as tie
 
-read-le16-requires : tie.Need-read-le16-requires
-read-le16-requires c κs = search needs
-
-add-read-le16 : tie.Need-add-read-le16
-add-read-le16 c = search needs
-
-read-le16-requires-2 : tie.Need-read-le16-requires-2
-read-le16-requires-2 c κs = search needs
-
-read-le16-requires-3 : tie.Need-read-le16-requires-3
-read-le16-requires-3 c κs = search needs
-
-count-tag-requires : tie.Need-count-tag-requires
-count-tag-requires c κs = search needs
-
 returns : tie.Need-returns
 unfolding roomOf
 returns c =
@@ -36,10 +21,4 @@ returns c =
 pub room-of-spec : {M : Type 1} → statement M
 room-of-spec =
     tie.close
-    (tie.spec
-    read-le16-requires
-    add-read-le16
-    read-le16-requires-2
-    read-le16-requires-3
-    count-tag-requires
-    returns)
+    (tie.spec (λ c κs. search needs) (λ c. search needs) (λ c κs. search needs) (λ c κs. search needs) (λ c κs. search needs) returns)

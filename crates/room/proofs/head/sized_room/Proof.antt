@@ -4,9 +4,6 @@ use borrow.Author.Needs.{needs}
 use Rattle.room.proofs.head.sized_room.Statement.{statement}
 use Rattle.room.proofs.head.sized_room.Tie as tie
 
-sizes-right-requires : tie.Need-sizes-right-requires
-sizes-right-requires c κs = search needs
-
 returns : tie.Need-returns
 unfolding sized
 returns c = rw (← c .before .sizes-right .ensures, c .if1 .taken)
@@ -16,4 +13,4 @@ unfolding sized
 returns-2 c = rw (← c .before .sizes-right .ensures, c .if1 .left)
 
 pub sized-room-spec : {M : Type 1} → statement M
-sized-room-spec = tie.close (tie.spec sizes-right-requires returns returns-2)
+sized-room-spec = tie.close (tie.spec (λ c κs. search needs) returns returns-2)

@@ -6,12 +6,6 @@ use borrow.Author.Needs.{needs}
 use Rattle.room.proofs.test.test_room.Statement.{statement}
 use Rattle.room.proofs.test.test_room.Tie as tie
 
-read-head-requires : tie.Need-read-head-requires
-read-head-requires c κs = search needs
-
-enum-known-r : tie.Need-enum-known-r
-enum-known-r c = search needs
-
 is-short-requires : tie.Need-is-short-requires
 is-short-requires c κs =
     let i = head-sound _ _ (sym (c .before .r .given .1) ∙ c .before .before .before .read-head .ensures) in
@@ -25,15 +19,6 @@ returns c =
 
 test-pictures-requires : tie.Need-test-pictures-requires
 test-pictures-requires c κs = head-sound _ _ (sym (c .before .before .before .r .given .1) ∙ c .before .before .before .before .before .read-head .ensures)
-
-enum-told : tie.Need-enum-told
-enum-told c = search needs
-
-enum-known-number : tie.Need-enum-known-number
-enum-known-number c = search needs
-
-enum-known-number-2 : tie.Need-enum-known-number-2
-enum-known-number-2 c = search needs
 
 returns-2 : tie.Need-returns-2
 unfolding roomTest afterHead
@@ -58,15 +43,5 @@ returns-4 c =
 pub test-room-spec : {M : Type 1} → statement M
 test-room-spec =
     tie.close
-    (tie.spec
-    read-head-requires
-    enum-known-r
-    is-short-requires
-    returns
-    test-pictures-requires
-    enum-told
-    enum-known-number
-    enum-known-number-2
-    returns-2
-    returns-3
-    returns-4)
+    (tie.spec (λ c κs. search needs) (λ c. search needs) is-short-requires returns test-pictures-requires (λ c. search needs)
+    (λ c. search needs) (λ c. search needs) returns-2 returns-3 returns-4)

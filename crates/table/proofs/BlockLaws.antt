@@ -33,12 +33,12 @@ table-first true strips n h = (refl, h)
 table-first false strips n h = absurd (not-passed n h)
 
 module _ (mask : Bool) (n h : ℕ) (s : List ℕ) (b z : ℕ) (passed : blockTest mask n h s b z ≡ Passed) where
-  pub block-table : tableRight mask n s b z ≡ true
+  both : (tableRight mask n s b z ≡ true) × (leftmost (stripTest mask n h s b z) 0 n ≡ Passed)
   unfolding blockTest
-  block-table = table-first (tableRight mask n s b z) (leftmost (stripTest mask n h s b z) 0 n) 5 passed .0
+  both = table-first (tableRight mask n s b z) (leftmost (stripTest mask n h s b z) 0 n) 5 passed
+
+  pub block-table : tableRight mask n s b z ≡ true
+  block-table = both .0
 
   pub block-strip : (k : ℕ) → k < n → stripTest mask n h s b z k ≡ Passed
-  unfolding blockTest
-  block-strip k lt =
-      let strips = table-first (tableRight mask n s b z) (leftmost (stripTest mask n h s b z) 0 n) 5 passed .1 in
-      leftmost-each (stripTest mask n h s b z) n 0 strips k (omega arith) (omega arith)
+  block-strip k lt = leftmost-each (stripTest mask n h s b z) n 0 (both .1) k (omega arith) (omega arith)
