@@ -1,8 +1,8 @@
 -- Laws of the calls: each answer from the tests that led to it.
 use mathlib.Core.Path.{_≡_, refl, sym, ap, _∙_}
-use mathlib.Core.Bool.{Bool, true, false, _&&_}
+use mathlib.Core.Bool.{Bool, true, _&&_}
 use mathlib.Core.List.{List, _++_, append-assoc}
-use Prim.Native.Nat.{ℕ, _+_, _*_, _/_, _%_, _≤_, _<_}
+use Prim.Native.Nat.{ℕ, _+_, _*_, _%_, _≤_, _<_}
 use native.Mathlib.Nat.{le-trans, mul-le-mul-right}
 use native.Mathlib.Omega.{arith}
 use borrow.Author.Tests.{lt-ltb, le-ltb, leb-true, eqb-true}
@@ -11,11 +11,10 @@ use lib.Seq.{sets, length-sets}
 use lib.Dec.{leb, eqb}
 use Rattle.number.specs.Number.{be32Bytes}
 use Rattle.strip.specs.Picture.{over}
-use Rattle.blocks.specs.declared.Wrote.{Wrote}
 use Rattle.blocks.specs.declared.Wrote.the-variants.{Block, Refused}
 use Rattle.table.specs.Table.{tableEnd}
 use Rattle.blocks.specs.Block.{tableFrom, bodiesFrom, sizeOf, blockOf, bodyFor}
-use Rattle.blocks.specs.Call.{sizesAllowed, sourceSize, blockOutcome, smapOutcome, planeOutcome, Answered}
+use Rattle.blocks.specs.Call.{sizesAllowed, sourceSize, blockOutcome, Answered}
 use Rattle.number.proofs.BoolLaws.{both}
 use Rattle.blocks.proofs.PutLaws.{put-to, put-past}
 use Rattle.blocks.proofs.FillLaws.{length-table}
@@ -118,21 +117,3 @@ module _ (tag : ℕ) (mask : Bool) (n h : ℕ) (src d : List ℕ) where
     whole-block le e f =
         rw (le-ltb (length src) (sourceSize mask n h) enough, le-ltb (length d) (length (blockOf tag mask n (bodyFor mask n h src))) (omega (arith, len)))
         (ap Block (sym len), f)
-
-pub smap-refused : (w h : ℕ) (src d : List ℕ) → sizesAllowed w h ≡ false → Answered (smapOutcome w h src (length d)) d d (Refused 3)
-unfolding smapOutcome
-smap-refused w h src d e = rw e (refl, refl)
-
-pub smap-written : (w h : ℕ) (src d e : List ℕ) (r : Wrote) → sizesAllowed w h ≡ true → Answered (blockOutcome 0x534D4150 false (w / 8) h src (length d)) d e r
-    → Answered (smapOutcome w h src (length d)) d e r
-unfolding smapOutcome
-smap-written w h src d e r t a = rw t a
-
-pub plane-refused : (k w h : ℕ) (src d : List ℕ) → (sizesAllowed w h && (leb 1 k && leb k 4)) ≡ false → Answered (planeOutcome k w h src (length d)) d d (Refused 3)
-unfolding planeOutcome
-plane-refused k w h src d e = rw e (refl, refl)
-
-pub plane-written : (k w h : ℕ) (src d e : List ℕ) (r : Wrote) → (sizesAllowed w h && (leb 1 k && leb k 4)) ≡ true
-    → Answered (blockOutcome (0x5A503030 + k) true (w / 8) h src (length d)) d e r → Answered (planeOutcome k w h src (length d)) d e r
-unfolding planeOutcome
-plane-written k w h src d e r t a = rw t a

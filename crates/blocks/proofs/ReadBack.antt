@@ -23,7 +23,7 @@ use Rattle.blocks.specs.Block.{pixelsOfStrip, rowsOfStrip, bodyFor, bloc
 use Rattle.blocks.specs.declared.Wrote.the-variants.{Block, Refused}
 use Rattle.blocks.specs.Call.{refused, written, sizesAllowed, sourceSize, blockOutcome, smapOutcome, planeOutcome, answerOf, targetAfter}
 use Rattle.blocks.proofs.CallLaws.{Sizes, sizes, length-block}
-use Rattle.blocks.proofs.PlacedLaws.{Placed, placed, tag-back, size-back, table-is, block-passes}
+use Rattle.blocks.proofs.PlacedLaws.{most, Placed, placed, tag-back, size-back, table-is, block-passes}
 use Rattle.blocks.proofs.BackLaws.{pixel-at, row-at, size-few, some-body, strip-is, rows-are}
 
 -- ---- what is claimed
@@ -131,25 +131,43 @@ block-accepted tag mask w h rows d e len allowed = go (ltb (length rows) (source
         let same : length (blockOf tag mask (w / 8) (bodyFor mask (w / 8) h rows)) ≡ len = cc in
         record { allowed = allowed; size = same; target = sym (t ∙ ap (λ (k : ℕ). blockOf tag mask (w / 8) (bodyFor mask (w / 8) h rows) ++ drop k d) same) }
 
+-- a call that gives 3 where its test fails
+tested : (test : Bool) (tag : ℕ) (mask : Bool) (w h : ℕ) (rows d e : List ℕ) (len : ℕ)
+    → Block len ≡ answerOf (cond test (blockOutcome tag mask (w / 8) h rows (length d)) (refused 3))
+    → e ≡ targetAfter (cond test (blockOutcome tag mask (w / 8) h rows (length d)) (refused 3)) d
+    → (test ≡ true) × (Sizes w h → Accepted tag mask w h rows d e len)
+tested true tag mask w h rows d e len a t = (refl, λ allowed. block-accepted tag mask w h rows d e len allowed a t)
+tested false tag mask w h rows d e len a t = wrong len 3 a
+
+module _ (tag : ℕ) (mask : Bool) (w h : ℕ) (rows d e : List ℕ) (len : ℕ) (a : Accepted tag mask w h rows d e len) where
+  abbrev block : List ℕ
+  block = blockOf tag mask (w / 8) (bodyFor mask (w / 8) h rows)
+
+  -- what holds of a block that stands before the bytes of d holds of e
+  at-target : (P : List ℕ → ℕ → Type 0) → P (block ++ drop len d) (0 + length block) → P e len
+  at-target P read =
+      subst (λ (q : List ℕ). P q len) (a .target) (subst (λ (z : ℕ). P (block ++ drop len d) z) (zero-add (length block) ∙ a .size) read)
+
+  -- a block's length fits its offsets
+  short : len < most mask
+  short =
+      let k = a .allowed in
+      omega (arith, a .size, length-block tag mask (w / 8) (bodyFor mask (w / 8) h rows), size-few mask (w / 8) h rows (k .one) (k .high) (omega (arith, k .narrow)))
+
 module _ (w h : ℕ) (rows d e : List ℕ) (len : ℕ) where
   module _ (answer : Block len ≡ answerOf (smapOutcome w h rows (length d))) (target : e ≡ targetAfter (smapOutcome w h rows (length d)) d) where
     smap-accepted : Accepted smapTag false w h rows d e len
     unfolding smapOutcome
-    smap-accepted = go (sizesAllowed w h) refl answer target
-      where
-        go : (p : Bool) → sizesAllowed w h ≡ p → Block len ≡ answerOf (cond p (blockOutcome smapTag false (w / 8) h rows (length d)) (refused 3))
-            → e ≡ targetAfter (cond p (blockOutcome smapTag false (w / 8) h rows (length d)) (refused 3)) d → Accepted smapTag false w h rows d e len
-        go true p a t = block-accepted smapTag false w h rows d e len (sizes w h p) a t
-        go false p a t = wrong len 3 a
+    smap-accepted =
+        let q = tested (sizesAllowed w h) smapTag false w h rows d e len answer target in
+        q .1 (sizes w h (q .0))
 
     -- the SMAP block that an accepted call has left at the front of its target e
     pub smap-call-reads : Bytes rows → SmapReads (w / 8) h rows e 0 len
     smap-call-reads bytes =
-        let a = smap-accepted in
-        let k = a .allowed in
-        let read = smap-reads-in (w / 8) h rows (omega (arith, k .narrow)) (k .one) (k .high) bytes [] (drop len d) in
-        subst (λ (q : List ℕ). SmapReads (w / 8) h rows q 0 len) (a .target)
-        (subst (λ (z : ℕ). SmapReads (w / 8) h rows (smapBlock (w / 8) h rows ++ drop len d) 0 z) (zero-add (length (smapBlock (w / 8) h rows)) ∙ a .size) read)
+        let k = smap-accepted .allowed in
+        at-target smapTag false w h rows d e len smap-accepted (λ q z. SmapReads (w / 8) h rows q 0 z)
+        (smap-reads-in (w / 8) h rows (omega (arith, k .narrow)) (k .one) (k .high) bytes [] (drop len d))
 
     -- in pixels: each one reads as it was given
     pub smap-call-pixel : Bytes rows → (x y : ℕ) → x < w → y < h → pixelAt (w / 8) h e 0 len x y ≡ getD rows (y * w + x) 0
@@ -158,37 +176,23 @@ module _ (w h : ℕ) (rows d e : List ℕ) (len : ℕ) where
         let wide : 8 * (w / 8) ≡ w = omega (arith, k .even) in
         smap-call-reads bytes .pixel x y (omega arith) hy ∙ ap (λ (j : ℕ). getD rows (y * j + x) 0) wide
 
-    -- a block's length fits 32 bits
     pub smap-short : len < 2 ^ 32
-    smap-short =
-        let a = smap-accepted in
-        let k = a .allowed in
-        omega (arith, a .size, length-block smapTag false (w / 8) (bodyFor false (w / 8) h rows), size-few false (w / 8) h rows (k .one) (k .high) (omega (arith, k .narrow)))
+    smap-short = short smapTag false w h rows d e len smap-accepted
 
   module _ (k : ℕ) (answer : Block len ≡ answerOf (planeOutcome k w h rows (length d))) (target : e ≡ targetAfter (planeOutcome k w h rows (length d)) d) where
     plane-accepted : Accepted (planeTag k) true w h rows d e len × (k ≤ 4)
     unfolding planeOutcome
-    plane-accepted = go (sizesAllowed w h && (leb 1 k && leb k 4)) refl answer target
-      where
-        go : (p : Bool) → (sizesAllowed w h && (leb 1 k && leb k 4)) ≡ p → Block len ≡ answerOf (cond p (blockOutcome (planeTag k) true (w / 8) h rows (length d)) (refused 3))
-            → e ≡ targetAfter (cond p (blockOutcome (planeTag k) true (w / 8) h rows (length d)) (refused 3)) d → Accepted (planeTag k) true w h rows d e len × (k ≤ 4)
-        go true p a t =
-            let two = both (sizesAllowed w h) (leb 1 k && leb k 4) p in
-            (block-accepted (planeTag k) true w h rows d e len (sizes w h (two .0)) a t, leb-true k 4 (both (leb 1 k) (leb k 4) (two .1) .1))
-        go false p a t = wrong len 3 a
+    plane-accepted =
+        let q = tested (sizesAllowed w h && (leb 1 k && leb k 4)) (planeTag k) true w h rows d e len answer target in
+        let two = both (sizesAllowed w h) (leb 1 k && leb k 4) (q .0) in
+        (q .1 (sizes w h (two .0)), leb-true k 4 (both (leb 1 k) (leb k 4) (two .1) .1))
 
     -- the block ZP0k that an accepted call has left at the front of its target e
     pub plane-call-reads : PlaneReads k (w / 8) h rows e 0 len
     plane-call-reads =
-        let a = plane-accepted .0 in
-        let r = a .allowed in
-        let read = plane-reads-in (w / 8) h rows (omega (arith, r .narrow)) (r .one) (r .high) k (plane-accepted .1) [] (drop len d) in
-        subst (λ (q : List ℕ). PlaneReads k (w / 8) h rows q 0 len) (a .target)
-        (subst (λ (z : ℕ). PlaneReads k (w / 8) h rows (planeBlock k (w / 8) h rows ++ drop len d) 0 z) (zero-add (length (planeBlock k (w / 8) h rows)) ∙ a .size) read)
+        let r = plane-accepted .0 .allowed in
+        at-target (planeTag k) true w h rows d e len (plane-accepted .0) (λ q z. PlaneReads k (w / 8) h rows q 0 z)
+        (plane-reads-in (w / 8) h rows (omega (arith, r .narrow)) (r .one) (r .high) k (plane-accepted .1) [] (drop len d))
 
-    -- a block's length fits 16 bits
     pub plane-short : len < 2 ^ 16
-    plane-short =
-        let a = plane-accepted .0 in
-        let r = a .allowed in
-        omega (arith, a .size, length-block (planeTag k) true (w / 8) (bodyFor true (w / 8) h rows), size-few true (w / 8) h rows (r .one) (r .high) (omega (arith, r .narrow)))
+    plane-short = short (planeTag k) true w h rows d e len (plane-accepted .0)

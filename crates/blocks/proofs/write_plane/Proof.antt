@@ -1,10 +1,9 @@
 use Rattle.number.proofs.BoolLaws.{both}
-use Rattle.blocks.proofs.CallLaws.{sizes, plane-refused, plane-written}
-use Rattle.blocks.specs.Call.{sizesAllowed}
-use denote.Ref.{now}
+use Rattle.blocks.proofs.CallLaws.{sizes}
+use Rattle.blocks.specs.Call.{sizesAllowed, planeOutcome}
 use lib.Dec.{leb}
 use mathlib.Core.Bool.{Bool, _&&_}
-use mathlib.Core.Path.{sym, ap, _∙_}
+use mathlib.Core.Path.{refl, sym, ap, _∙_}
 use native.Mathlib.Omega.{arith}
 use borrow.Author.Needs.{needs}
 use Rattle.blocks.proofs.write_plane.Statement.{statement}
@@ -30,16 +29,18 @@ same-length : tie.Need-same-length
 same-length c = search needs
 
 returns : tie.Need-returns
+unfolding planeOutcome
 returns c =
     let a = c .before .before .before .before .before .before .before .before .args in
     let t = ap (λ (b : Bool). b && (leb 1 (a .k) && leb (a .k) 4)) (sym (c .before .before .before .before .before .sizes-allowed .ensures)) ∙ c .before .before .before .before .if1 .taken in
-    plane-written (a .k) (a .w) (a .h) (now (a .rows)) (now (a .out)) _ _ t (c .before .before .write-block .ensures)
+    rw t (c .before .before .write-block .ensures)
 
 returns-2 : tie.Need-returns-2
+unfolding planeOutcome
 returns-2 c =
     let a = c .before .before .before .before .args in
     let t = ap (λ (b : Bool). b && (leb 1 (a .k) && leb (a .k) 4)) (sym (c .before .sizes-allowed .ensures)) ∙ c .if1 .left in
-    plane-refused (a .k) (a .w) (a .h) (now (a .rows)) (now (a .out)) t
+    rw t (refl, refl)
 
 pub write-plane-spec : {M : Type 1} → statement M
 write-plane-spec =

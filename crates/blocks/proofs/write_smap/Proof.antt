@@ -1,6 +1,6 @@
-use Rattle.blocks.proofs.CallLaws.{sizes, smap-refused, smap-written}
-use denote.Ref.{now}
-use mathlib.Core.Path.{sym, _∙_}
+use Rattle.blocks.proofs.CallLaws.{sizes}
+use Rattle.blocks.specs.Call.{smapOutcome}
+use mathlib.Core.Path.{refl, sym, _∙_}
 use native.Mathlib.Omega.{arith}
 use borrow.Author.Needs.{needs}
 use Rattle.blocks.proofs.write_smap.Statement.{statement}
@@ -21,10 +21,13 @@ same-length : tie.Need-same-length
 same-length c = search needs
 
 returns : tie.Need-returns
-returns c = smap-written (c .before .before .before .before .before .before .before .before .args .w) (c .before .before .before .before .before .before .before .before .args .h) (now (c .before .before .before .before .before .before .before .before .args .rows)) (now (c .before .before .before .before .before .before .before .before .args .out)) _ _ (sym (c .before .before .before .before .before .sizes-allowed .ensures) ∙ c .before .before .before .before .if1 .taken) (c .before .before .write-block .ensures)
+unfolding smapOutcome
+returns c =
+    rw (sym (c .before .before .before .before .before .sizes-allowed .ensures) ∙ c .before .before .before .before .if1 .taken) (c .before .before .write-block .ensures)
 
 returns-2 : tie.Need-returns-2
-returns-2 c = smap-refused (c .before .before .before .before .args .w) (c .before .before .before .before .args .h) (now (c .before .before .before .before .args .rows)) (now (c .before .before .before .before .args .out)) (sym (c .before .sizes-allowed .ensures) ∙ c .if1 .left)
+unfolding smapOutcome
+returns-2 c = rw (sym (c .before .sizes-allowed .ensures) ∙ c .if1 .left) (refl, refl)
 
 pub write-smap-spec : {M : Type 1} → statement M
 write-smap-spec =
