@@ -51,9 +51,9 @@ rows-few n h a b = le-trans (mul-le-mul-right n b) (omega arith)
 
 -- ---- a block
 
-pub length-big-endian : (v : ℕ) → length (be32Bytes v) ≡ 4
+pub length-be32 : (v : ℕ) → length (be32Bytes v) ≡ 4
 unfolding be32Bytes
-length-big-endian v = refl
+length-be32 v = refl
 
 pub length-block : (tag : ℕ) (mask : Bool) (n : ℕ) (f : ℕ → List ℕ) → length (blockOf tag mask n f) ≡ sizeOf mask n f
 unfolding blockOf sizeOf
@@ -65,8 +65,8 @@ length-block tag mask n f =
       length-append (be32Bytes s) (tableFrom mask f 0 n (tableEnd mask n) ++ bodiesFrom f 0 n),
       length-append (tableFrom mask f 0 n (tableEnd mask n)) (bodiesFrom f 0 n),
       length-table mask f 0 n (tableEnd mask n),
-      length-big-endian tag,
-      length-big-endian s,
+      length-be32 tag,
+      length-be32 s,
     )
 
 module _ (tag : ℕ) (mask : Bool) (n : ℕ) (f : ℕ → List ℕ) (d : List ℕ) (size : ℕ) (same : size ≡ sizeOf mask n f) (room : 8 ≤ length d) where
@@ -77,8 +77,8 @@ module _ (tag : ℕ) (mask : Bool) (n : ℕ) (f : ℕ → List ℕ) (d : List �
   block-done x e g h =
       let one = sets d 0 (be32Bytes tag) in
       let two = sets one 4 (be32Bytes size) in
-      let lt = length-big-endian tag in
-      let ls = length-big-endian size in
+      let lt = length-be32 tag in
+      let ls = length-be32 size in
       let rest = tableFrom mask f 0 n (tableEnd mask n) ++ bodiesFrom f 0 n in
       let h1 : 0 + length (be32Bytes tag) ≤ length d = omega arith in
       let l1 : length one ≡ length d = length-sets d 0 (be32Bytes tag) in
@@ -87,7 +87,7 @@ module _ (tag : ℕ) (mask : Bool) (n : ℕ) (f : ℕ → List ℕ) (d : List �
       ap (take 8) g ∙ put-to one 4 (be32Bytes size) h2 8 (omega arith) ∙ ap (λ (q : List ℕ). q ++ be32Bytes size) (put-to d 0 (be32Bytes tag) h1 4 (omega arith)) in
       let all : take 8 x ++ rest ≡ blockOf tag mask n f =
       ap (λ (q : List ℕ). q ++ rest) front ∙ append-assoc (be32Bytes tag) (be32Bytes size) rest ∙ ap (λ (k : ℕ). be32Bytes tag ++ (be32Bytes k ++ rest)) same in
-      let big : 8 ≤ length (blockOf tag mask n f) = omega (arith, length-append (be32Bytes tag) (be32Bytes (sizeOf mask n f) ++ rest), length-append (be32Bytes (sizeOf mask n f)) rest, length-big-endian (sizeOf mask n f)) in
+      let big : 8 ≤ length (blockOf tag mask n f) = omega (arith, length-append (be32Bytes tag) (be32Bytes (sizeOf mask n f) ++ rest), length-append (be32Bytes (sizeOf mask n f)) rest, length-be32 (sizeOf mask n f)) in
       h
       ∙ ap (λ (q : List ℕ). q ++ drop (length q) x) all
       ∙ ap (λ (q : List ℕ). blockOf tag mask n f ++ q)

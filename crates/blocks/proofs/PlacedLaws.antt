@@ -19,7 +19,7 @@ use Rattle.table.specs.declared.Test.the-variants.{Passed}
 use Rattle.table.proofs.TestLaws.{leftmost-none, leftmost-pass}
 use Rattle.blocks.specs.Block.{offsetBytes, offsetOf, tableFrom, bodiesFrom, sizeOf, blockOf}
 use Rattle.blocks.proofs.FillLaws.{length-table, bodies-step}
-use Rattle.blocks.proofs.CallLaws.{length-block, length-big-endian}
+use Rattle.blocks.proofs.CallLaws.{length-block, length-be32}
 
 -- ---- numbers in bytes, read back
 
@@ -39,9 +39,9 @@ four-bytes v h =
 first-at : (p q : List ℕ) (x : ℕ) → getD q 0 0 ≡ x → getD (p ++ q) (length p) 0 ≡ x
 first-at p q x e = ap (λ (k : ℕ). getD (p ++ q) k 0) (sym (add-zero (length p))) ∙ getD-append-add p q 0 0 ∙ e
 
-big-endian-back : (v : ℕ) (p r : List ℕ) → v < 2 ^ 32 → be32 (p ++ (be32Bytes v ++ r)) (length p) ≡ v
+be32-back : (v : ℕ) (p r : List ℕ) → v < 2 ^ 32 → be32 (p ++ (be32Bytes v ++ r)) (length p) ≡ v
 unfolding be32Bytes
-big-endian-back v p r h =
+be32-back v p r h =
     let q = be32Bytes v ++ r in
     let a : getD (p ++ q) (length p) 0 ≡ v / 16777216 % 256 = first-at p q (v / 16777216 % 256) refl in
     let b : getD (p ++ q) (length p + 1) 0 ≡ v / 65536 % 256 = getD-append-add p q 1 0 in
@@ -137,8 +137,8 @@ module _ (tag : ℕ) (mask : Bool) (n : ℕ) (f : ℕ → List ℕ) (before afte
         arith,
         length-append (before ++ be32Bytes tag) (be32Bytes (sizeOf mask n f)),
         length-append before (be32Bytes tag),
-        length-big-endian tag,
-        length-big-endian (sizeOf mask n f),
+        length-be32 tag,
+        length-be32 (sizeOf mask n f),
       )
 
   place-end : length before + length (blockOf tag mask n f) ≡ length before + startOf mask n f n
@@ -200,15 +200,15 @@ module _ (tag : ℕ) (mask : Bool) (n : ℕ) (f : ℕ → List ℕ) (before afte
   unfolding blockOf
   tag-back h =
       let rest = be32Bytes (sizeOf mask n f) ++ (tableFrom mask f 0 n (tableEnd mask n) ++ bodiesFrom f 0 n) in
-      ap (λ (q : List ℕ). be32 (before ++ q) (length before)) (append-assoc (be32Bytes tag) rest after) ∙ big-endian-back tag before (rest ++ after) h
+      ap (λ (q : List ℕ). be32 (before ++ q) (length before)) (append-assoc (be32Bytes tag) rest after) ∙ be32-back tag before (rest ++ after) h
 
   pub size-back : sizeOf mask n f < 2 ^ 32 → be32 (before ++ (blockOf tag mask n f ++ after)) (length before + 4) ≡ length (blockOf tag mask n f)
   unfolding blockOf
   size-back h =
       let rest = tableFrom mask f 0 n (tableEnd mask n) ++ bodiesFrom f 0 n in
-      let len : length (before ++ be32Bytes tag) ≡ length before + 4 = length-append before (be32Bytes tag) ∙ ap (λ (k : ℕ). length before + k) (length-big-endian tag) in
+      let len : length (before ++ be32Bytes tag) ≡ length before + 4 = length-append before (be32Bytes tag) ∙ ap (λ (k : ℕ). length before + k) (length-be32 tag) in
       let whole : before ++ (blockOf tag mask n f ++ after) ≡ (before ++ be32Bytes tag) ++ (be32Bytes (sizeOf mask n f) ++ (rest ++ after)) = around rest ∙ append-assoc (before ++ be32Bytes tag) (be32Bytes (sizeOf mask n f)) (rest ++ after) in
-      ap₂ (λ (q : List ℕ) (i : ℕ). be32 q i) whole (sym len) ∙ big-endian-back (sizeOf mask n f) (before ++ be32Bytes tag) (rest ++ after) h ∙ sym (length-block tag mask n f)
+      ap₂ (λ (q : List ℕ) (i : ℕ). be32 q i) whole (sym len) ∙ be32-back (sizeOf mask n f) (before ++ be32Bytes tag) (rest ++ after) h ∙ sym (length-block tag mask n f)
 
 -- ---- what the reader's definitions find of a block in its place
 

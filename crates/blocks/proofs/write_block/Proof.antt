@@ -1,5 +1,5 @@
 use Rattle.number.specs.Number.{be32Bytes}
-use Rattle.blocks.proofs.CallLaws.{length-big-endian, block-done, short-source, short-target, whole-block}
+use Rattle.blocks.proofs.CallLaws.{length-be32, block-done, short-source, short-target, whole-block}
 use Rattle.blocks.proofs.FillLaws.{offsets-few}
 use Rattle.blocks.specs.Call.{sourceSize}
 use Rattle.table.specs.Table.{tableEnd, offsetSize}
@@ -63,8 +63,8 @@ write-strips-requires c κs =
     let q : size ≡ tableEnd (a .mask) (a .n) + length (bodiesFrom f 0 (a .n)) = omega (arith, p, c .before .before .before .before .before .before .before .before .before .before .bodies-size .ensures .0) in
     let d = now (a .out) in
     let room : size ≤ length d = c .before .before .before .before .before .before .before .before .before .if2 .left in
-    let four : length (be32Bytes (a .tag)) ≡ 4 = length-big-endian (a .tag) in
-    let also : length (be32Bytes size) ≡ 4 = length-big-endian size in
+    let four : length (be32Bytes (a .tag)) ≡ 4 = length-be32 (a .tag) in
+    let also : length (be32Bytes size) ≡ 4 = length-be32 size in
     let l1 : length (sets d 0 (be32Bytes (a .tag))) ≡ length d = length-sets d 0 (be32Bytes (a .tag)) in
     let l2 : length (sets (sets d 0 (be32Bytes (a .tag))) 4 (be32Bytes size)) ≡ length (sets d 0 (be32Bytes (a .tag))) = length-sets (sets d 0 (be32Bytes (a .tag))) 4 (be32Bytes size) in
     let two = c .before .before .before .put-be322 .ensures ∙ ap (λ (x : List ℕ). sets x 4 (be32Bytes size)) (c .before .before .before .before .before .before .before .put-be32 .ensures) in
