@@ -112,7 +112,15 @@ module _ (frame masks picture : List ℕ) (w h n width height clear : ℕ) (x y 
         let room = stamp-accepted (length frame) (length masks) (length picture) w h n width height accepted .room in
         ap (λ (l : List ℕ). getD l (q * w + p) 0) (accepted-stamps accepted)
         ∙ getD-upd (stamped masks picture w h n width height clear x y clip) frame (q * w + p) (omega (arith, cell-lt w h p q in-x in-y))
-        ∙ rw (digits-div q in-x, digits-mod q in-x, lt-ltb q h in-y, stands-covers y height row q inside-y at-y, stands-covers x width column p inside-x at-x, stands-nth y row q at-y, stands-nth x column p at-x)
+        ∙ rw (
+          digits-div q in-x,
+          digits-mod q in-x,
+          lt-ltb q h in-y,
+          stands-covers y height row q inside-y at-y,
+          stands-covers x width column p inside-x at-x,
+          stands-nth y row q at-y,
+          stands-nth x column p at-x,
+        )
 
     -- an opaque pixel inside the room is written exactly when it is not hidden
     pub opaque-pixel : (colour ≡ clear → ⊥) → new ≡ pick (hiddenAt masks w h n clip p q) old colour
@@ -144,9 +152,11 @@ module _ (frame a b picture : List ℕ) (w h n width height clear : ℕ) (x y : 
       (λ e. accepted-stamps frame a picture w h n width height clear x y clip e
       ∙ upd-ext _ _ frame (λ i k. cell e i (getD frame i 0))
       ∙ sym (accepted-stamps frame b picture w h n width height clear x y clip (number-same ∙ e)))
-      (λ e. refused-keeps frame a picture w h n width height clear x y clip e ∙ sym (refused-keeps frame b picture w h n width height clear x y clip (λ z. e (sym number-same ∙ z))))
+      (λ e. refused-keeps frame a picture w h n width height clear x y clip e
+      ∙ sym (refused-keeps frame b picture w h n width height clear x y clip (λ z. e (sym number-same ∙ z))))
     where
-      number-same : stampNumber (length frame) (length b) (length picture) w h n width height ≡ stampNumber (length frame) (length a) (length picture) w h n width height
+      number-same : stampNumber (length frame) (length b) (length picture) w h n width height
+          ≡ stampNumber (length frame) (length a) (length picture) w h n width height
       number-same = rw long
 
       within-rows : (i o : ℕ) (t : Bool) (on : Bool) (v : ℕ) → w % 8 ≡ 0 → 0 < w → ltb (i / w) h ≡ t
@@ -158,4 +168,5 @@ module _ (frame a b picture : List ℕ) (w h n width height clear : ℕ) (x y : 
           → stamped a picture w h n width height clear x y clip i o ≡ stamped b picture w h n width height clear x y clip i o
       cell e i o =
           let r = stamp-accepted (length frame) (length a) (length picture) w h n width height e in
-          within-rows i o (ltb (i / w) h) (covers y height (i / w) && covers x width (i % w)) (getD picture (nth y (i / w) * width + nth x (i % w)) 0) (r .planes .whole) (r .some) refl
+          within-rows i o (ltb (i / w) h) (covers y height (i / w) && covers x width (i % w)) (getD picture (nth y (i / w) * width + nth x (i % w)) 0)
+          (r .planes .whole) (r .some) refl

@@ -21,7 +21,8 @@ unfolding hiddenAt maskBit
 own-plane = (refl, refl, refl, refl)
 
 -- 3, then 4, then 14: by the length of the masks, in a room of 8 by 2 with one plane (two mask bytes)
-numbers : (hiddenNumber 0 9 2 1 8 0 ≡ 3) × (hiddenNumber 1 8 2 1 8 0 ≡ 4) × (hiddenNumber 2 8 2 1 8 0 ≡ 14) × (hiddenNumber 2 8 2 1 7 2 ≡ 14) × (hiddenNumber 2 8 2 1 7 1 ≡ 0)
+numbers : (hiddenNumber 0 9 2 1 8 0 ≡ 3) × (hiddenNumber 1 8 2 1 8 0 ≡ 4) × (hiddenNumber 2 8 2 1 8 0 ≡ 14) × (hiddenNumber 2 8 2 1 7 2 ≡ 14)
+    × (hiddenNumber 2 8 2 1 7 1 ≡ 0)
 unfolding hiddenNumber sizesFit
 numbers = (refl, refl, refl, refl, refl)
 

@@ -72,7 +72,8 @@ hidden-accepted len w h n x y e =
     (planes len w h n (ranges w h n (a .0)) (leb-true _ _ (b .0)), (ltb-true _ _ (d .0), ltb-true _ _ (d .1)))
 
 -- an accepted stamp
-pub stamp-accepted : (frame masks picture w h n width height : ℕ) → stampNumber frame masks picture w h n width height ≡ 0 → Buffers frame masks picture w h n width height
+pub stamp-accepted : (frame masks picture w h n width height : ℕ) → stampNumber frame masks picture w h n width height ≡ 0
+    → Buffers frame masks picture w h n width height
 unfolding stampNumber buffersFit
 stamp-accepted frame masks picture w h n width height e =
     let a = unless-none _ _ _ e in

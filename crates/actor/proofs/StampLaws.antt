@@ -36,7 +36,8 @@ pick-same : (b d : Bool) (u v o : ℕ) → b ≡ d → (b ≡ true → u ≡ v) 
 pick-same true d u v o e h = rw (← e) (h refl)
 pick-same false d u v o e h = rw (← e)
 
-module _ (masks picture : List ℕ) (w h n width height clear clip : ℕ) (x y : ℤ) (across down : Span) (some : 0 < w) (is-across : InFrame x width w across) (is-down : InFrame y height h down)
+module _ (masks picture : List ℕ) (w h n width height clear clip : ℕ) (x y : ℤ) (across down : Span) (some : 0 < w)
+    (is-across : InFrame x width w across) (is-down : InFrame y height h down)
   where
     stamp-value : (p q o : ℕ) → ahead x ≤ p → ahead y ≤ q
         → stampBox masks picture w h n width clear clip across down (p - across .start) (q - down .start) o
@@ -57,12 +58,15 @@ module _ (masks picture : List ℕ) (w h n width height clear clip : ℕ) (x y :
     unfolding boxed stamped
     stamp-point i o =
         let inw : i % w < w = mod-lt i some in
-        let same : (within (down .start) (down .count) (i / w) && within (across .start) (across .count) (i % w)) ≡ (ltb (i / w) h && (covers y height (i / w) && covers x width (i % w))) =
+        let same : (within (down .start) (down .count) (i / w) && within (across .start) (across .count) (i % w))
+        ≡ (ltb (i / w) h && (covers y height (i / w) && covers x width (i % w))) =
         rw (is-down .start, is-down .count, is-across .start, is-across .count, axis y height h (i / w), axis x width w (i % w), lt-ltb (i % w) w inw)
         (and-assoc (ltb (i / w) h) (covers y height (i / w)) (covers x width (i % w))) in
         pick-same _ _ _ _ _ same
         (λ t. within-cases (down .start) (down .count) (i / w)
-        (λ a b. within-cases (across .start) (across .count) (i % w) (λ c d. stamp-value (i % w) (i / w) o (omega (arith, is-across .start)) (omega (arith, is-down .start))) (λ m. absurd (false≢true (rw (m, and-false) at t))))
+        (λ a b. within-cases (across .start) (across .count) (i % w)
+        (λ c d. stamp-value (i % w) (i / w) o (omega (arith, is-across .start)) (omega (arith, is-down .start)))
+        (λ m. absurd (false≢true (rw (m, and-false) at t))))
         (λ m. absurd (false≢true (rw m at t))))
 
     pub stamp-made : (l out : List ℕ)

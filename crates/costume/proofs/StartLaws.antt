@@ -154,13 +154,15 @@ module _ (s l : List ℕ) (t count v chore direction : ℕ) where
   -- the three answers
   module _ (n : ℕ) (e : n ≡ startNumber s l t count v chore direction) where
     pub start-refused : (n ≡ 0 → ⊥)
-        → (Refused n ≡ startedOf s l t count v chore direction) × ((n ≡ startNumber s l t count v chore direction) × (l ≡ startBytes s l t count v chore direction))
+        → (Refused n ≡ startedOf s l t count v chore direction)
+        × ((n ≡ startNumber s l t count v chore direction) × (l ≡ startBytes s l t count v chore direction))
     unfolding startedOf startBytes
     start-refused z = (rw (← e, ne-eqb _ _ z), (e, rw (← e, ne-eqb _ _ z)))
 
     module _ (z : n ≡ 0) (o : ℕ) (eo : o ≡ offsetAt s t chore direction) where
       pub start-undefined : false ≡ defined s o
-          → (Undefined ≡ startedOf s l t count v chore direction) × ((0 ≡ startNumber s l t count v chore direction) × (l ≡ startBytes s l t count v chore direction))
+          → (Undefined ≡ startedOf s l t count v chore direction)
+          × ((0 ≡ startNumber s l t count v chore direction) × (l ≡ startBytes s l t count v chore direction))
       unfolding startedOf startBytes
       start-undefined d = (rw (← e, eq-eqb _ _ z, ← eo, ← d), (sym z ∙ e, rw (← e, eq-eqb _ _ z, ← eo, ← d)))
 

@@ -47,7 +47,8 @@ module _ (s l : List ℕ) (t count v chore direction : ℕ) (ok : startNumber s 
 
     module _ (bytes : Bytes l) where
       -- a limb that the record does not name keeps every byte
-      pub start-still : (i j : ℕ) → i < 16 → entryOf s (o - 6) i ≡ Unnamed → 16 * i ≤ j → j < 16 * i + 16 → getD (startBytes s l t count v chore direction) j 0 ≡ getD l j 0
+      pub start-still : (i j : ℕ) → i < 16 → entryOf s (o - 6) i ≡ Unnamed → 16 * i ≤ j → j < 16 * i + 16
+          → getD (startBytes s l t count v chore direction) j 0 ≡ getD l j 0
       unfolding begunLimb
       start-still i j h e a b =
           ap (λ (m : List ℕ). getD m j 0) start-is ∙ each-kept f l i 16 h (starts .whole) bytes (ap (λ (q : Entry). begunLimb q (limbAt l i)) e) j a b
@@ -81,7 +82,8 @@ module _ (s l : List ℕ) (t count v chore direction : ℕ) where
   pub start-unchanged : (startNumber s l t count v chore direction ≡ 0 → ⊥) → startBytes s l t count v chore direction ≡ l
   start-unchanged h = sym (start-refused s l t count v chore direction (startNumber s l t count v chore direction) refl h .1 .1)
 
-  pub undefined-unchanged : startNumber s l t count v chore direction ≡ 0 → defined s (offsetAt s t chore direction) ≡ false → startBytes s l t count v chore direction ≡ l
+  pub undefined-unchanged : startNumber s l t count v chore direction ≡ 0 → defined s (offsetAt s t chore direction) ≡ false
+      → startBytes s l t count v chore direction ≡ l
   undefined-unchanged h d = sym (start-undefined s l t count v chore direction 0 (sym h) refl (offsetAt s t chore direction) refl (sym d) .1 .1)
 
 -- the stopped byte stays at a start, on idling too

@@ -41,7 +41,8 @@ module _ (s : List ℕ) (r : bytes.Room) (b : Lent) (accepted : testOf s b ≡ R
   befores-held [] = refl
   befores-held (c ∷ cs) =
       go (befores-held cs) (eqb (numberOf s (bytesAfter s b cs) c) 0)
-      ∙ (λ i. cond (eqb (play.numbers s r b accepted cs c i) 0) (scene.stacked c (state-is cs i) (scene.befores D (surfacesIn b) cs)) (scene.befores D (surfacesIn b) cs))
+      ∙ (λ i. cond (eqb (play.numbers s r b accepted cs c i) 0) (scene.stacked c (state-is cs i) (scene.befores D (surfacesIn b) cs))
+      (scene.befores D (surfacesIn b) cs))
     where
       go : map held (befores s b cs) ≡ scene.befores D (surfacesIn b) cs → (t : Bool)
           → map held (cond t (stacked c (bytesAfter s b cs) (befores s b cs)) (befores s b cs))

@@ -71,7 +71,8 @@ raw-some [] code = absurd (omega (arith, code))
 raw-some (c ∷ t) code = omega arith
 
 -- a pixel of a raw strip that passes
-raw-pixel : (h : ℕ) (s : List ℕ) → getD s 0 0 ≡ 0x01 → pictureTest (stripOf h s) ≡ Passed → (j : ℕ) → j < 8 * h → getD (pixelsOf (stripOf h s)) j 0 ≡ getD s (1 + j) 0
+raw-pixel : (h : ℕ) (s : List ℕ) → getD s 0 0 ≡ 0x01 → pictureTest (stripOf h s) ≡ Passed → (j : ℕ) → j < 8 * h
+    → getD (pixelsOf (stripOf h s)) j 0 ≡ getD s (1 + j) 0
 raw-pixel h s code passed j lt =
     let some = raw-some s code in
     by-cases (decLt (length (drop 1 s)) (8 * h))

@@ -83,5 +83,6 @@ rows =
     ∷ []
 
 worked-rows : T (all-hold rows)
-unfolding rows all-hold holds is-picture is-refusal is-rows is-refused same stripOf rawOf codedOf placed kindOf fiveFrom decode lowBits bitsOf rowsOf offsetAt bodyEnd bodyOf rowsAt packed opBits stepOf opsBits stripBody runLength literalLength opRows opBytes opsBytes allZero rowsBody
+unfolding rows all-hold holds is-picture is-refusal is-rows is-refused same stripOf rawOf codedOf placed kindOf fiveFrom decode lowBits bitsOf rowsOf
+    offsetAt bodyEnd bodyOf rowsAt packed opBits stepOf opsBits stripBody runLength literalLength opRows opBytes opsBytes allZero rowsBody
 worked-rows = tt
