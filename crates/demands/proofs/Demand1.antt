@@ -1,6 +1,6 @@
 -- Demand 1 holds: a refused call leaves every lent byte.
 use Prim.Native.Nat.{ℕ, _≤_}
-use mathlib.Core.Path.{_≡_, refl, sym, ap, _∙_}
+use mathlib.Core.Path.{_≡_, refl, sym, _∙_}
 use mathlib.Core.List.{List}
 use lib.ListN.{length}
 use Rattle.room.specs.Test.{numberOf, withSurfaces}
@@ -17,7 +17,7 @@ use Rattle.blocks.specs.Call.{number, Outcome, refused, written, smapOutcome, p
 use Rattle.costume.proofs.Theorems.{start-unchanged}
 use Rattle.limbs.proofs.Theorems.{tick-unchanged}
 use Rattle.load.specs.Load.{sessionAfter, pixelsAfter, masksAfter}
-use Rattle.scene.specs.Painting.{Room, Surfaces}
+use Rattle.scene.specs.Painting.{Room}
 use Rattle.scene.specs.declared.Call.{Call}
 use Rattle.scene.specs.Session.{State, called}
 use Rattle.replay.specs.Replay as replay

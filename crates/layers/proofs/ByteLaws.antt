@@ -2,17 +2,16 @@
 -- Assumes nothing.
 use mathlib.Core.Path.{_≡_, refl, sym, ap, ap₂, _∙_}
 use mathlib.Core.Bool.{Bool, true, false, _&&_, cond, true≢false}
-use mathlib.Core.List.{List, [], _∷_}
+use mathlib.Core.List.{List}
 use mathlib.Core.Logic.{by-cases}
-use Prim.Native.Nat.{ℕ, suc, _+_, _-_, _*_, _/_, _%_, _≤_, _<_}
+use Prim.Native.Nat.{ℕ, _+_, _-_, _*_, _/_, _%_, _≤_, _<_}
 use native.Mathlib.Decide.{ℕ-discrete, decLt}
 use native.Mathlib.Nat.{div-add-mod', mod-lt, mul-le-mul-right}
 use native.Mathlib.Omega.{arith}
 use borrow.Author.Tests.{lt-ltb, le-ltb, eq-eqb, ne-eqb, ltb-true, eqb-true}
 use lib.Dec.{ltb, eqb}
-use lib.ListN.{getD}
 use Rattle.grid.specs.Grid.{pick, upd, within, boxed}
-use Rattle.grid.proofs.Upd.{upd-ext, upd-id}
+use Rattle.grid.proofs.Upd.{upd-id}
 use Rattle.grid.proofs.Box.{within-yes, within-lo, within-hi, within-cases, boxed-in, boxed-off, boxed-out}
 use Rattle.layers.specs.Layer.{stripByte}
 

@@ -1,6 +1,6 @@
 -- Demand 3 of the calls themselves: their contracts, from an accepted load on, are crate scene's calls at the decoded room, so that every list
 -- of draws, hides and take-backs, refused ones included, agrees with document 01's step list, byte for byte.
-use mathlib.Core.Path.{_≡_, refl, sym, ap, _∙_, subst}
+use mathlib.Core.Path.{_≡_, refl, sym, ap, _∙_}
 use mathlib.Core.Bool.{true}
 use mathlib.Core.List.{List, [], _∷_}
 use Prim.Native.Nat.{ℕ, _+_, _≤_}
@@ -8,25 +8,24 @@ use native.Mathlib.Omega.{arith}
 use lib.ListN.{length, drop, replicate, length-set, length-append, length-drop, length-replicate}
 use Rattle.strip.specs.Picture.{over}
 use Rattle.room.specs.Head.{Sound}
-use Rattle.room.specs.Test.{strips, roomTest, withSurfaces}
+use Rattle.room.specs.Test.{roomTest, withSurfaces}
 use Rattle.room.specs.declared.Room as room
-use Rattle.room.specs.declared.Tested.{Tested}
 use Rattle.room.specs.declared.Tested.the-variants.{Right}
 use Rattle.room.proofs.TestLaws.{test-passes, surfaces-long}
-use Rattle.load.specs.Load.{sessionSize, emptied, loadTest}
+use Rattle.load.specs.Load.{sessionSize, emptied}
 use Rattle.scene.specs.Painting.{Room, Surfaces, pixelLayout, maskLayout, painted}
 use Rattle.scene.specs.declared.Call.{Call}
 use Rattle.scene.specs.declared.Call.the-variants.{Make, TakeBack}
-use Rattle.scene.specs.Session.{State, Outcome, called, loaded, stateAfter, Demand3}
+use Rattle.scene.specs.Session.{State, called, loaded, stateAfter, Demand3}
 use Rattle.scene.proofs.Reading.{length-rebuilt}
 use Rattle.scene.proofs.Demand3 as scene
-use Rattle.stored.specs.Bytes.{sessionOf, putMarks, putHistory}
+use Rattle.stored.specs.Bytes.{putMarks, putHistory}
 use Rattle.replay.specs.Replay.{Plan, no, ok}
 use Rattle.session.specs.Plans.{planned, bytesKept}
 use Rattle.stored.proofs.BytesLaws.{length-marks}
 use Rattle.session.proofs.Caller.{called-kept}
 use Rattle.layers.specs.Decoded.{decoded}
-use Rattle.play.specs.Calls.{stateOf, outcome, kept}
+use Rattle.play.specs.Calls.{stateOf, kept}
 use Rattle.play.specs.Bytes.{Lent, testOf, afterLoad, afterCall, numberOf, bytesAfter}
 use Rattle.play.proofs.LoadedLaws.{loaded-is}
 

@@ -1,16 +1,16 @@
 -- What a load leaves is the room painted afresh with nothing shown, and an empty session.
 use mathlib.Core.Path.{_≡_, refl, sym, ap, ap₂, _∙_}
-use mathlib.Core.Bool.{Bool, true, false, cond, _&&_, and-true}
-use mathlib.Core.List.{List, [], _∷_, _++_}
+use mathlib.Core.Bool.{Bool, true, cond, and-true}
+use mathlib.Core.List.{List, []}
 use mathlib.Core.Logic.{by-cases}
-use Prim.Native.Nat.{ℕ, zero, suc, _+_, _-_, _*_, _/_, _%_, _≤_, _<_}
+use Prim.Native.Nat.{ℕ, _+_, _*_, _/_, _%_, _≤_, _<_}
 use native.Mathlib.Nat.{div-lt-iff-lt-mul, mod-lt, sub-zero}
 use native.Mathlib.Decide.{decLt}
 use native.Mathlib.Omega.{arith}
 use borrow.Author.Tests.{lt-ltb, le-ltb}
 use lib.Dec.{ltb}
-use lib.ListN.{length, getD, replicate, drop}
-use Rattle.grid.specs.Grid.{upd, boxed, within}
+use lib.ListN.{getD}
+use Rattle.grid.specs.Grid.{upd, boxed}
 use Rattle.grid.proofs.Upd.{upd-ext}
 use Rattle.grid.proofs.Box.{boxed-in, boxed-off, within-hi}
 use Rattle.strip.specs.Picture.{over}
@@ -18,8 +18,8 @@ use Rattle.room.specs.Head.{Sound}
 use Rattle.room.specs.Test.{strips}
 use Rattle.room.specs.declared.Room as room
 use Rattle.load.specs.Load.{background, mask, loadedPixels, loadedMasks, emptied}
-use Rattle.scene.specs.Painting.{Room, Surfaces, pixelLayout, maskLayout, rebuiltBytes, newByte, freshByte, layered, painted, rebuilt}
-use Rattle.scene.specs.Session.{State, loaded}
+use Rattle.scene.specs.Painting.{Room, pixelLayout, maskLayout, rebuiltBytes, newByte, freshByte, layered}
+use Rattle.scene.specs.Session.{loaded}
 use Rattle.stored.specs.Bytes.{sessionOf, marksFrom, allPlaced}
 use Rattle.layers.specs.Decoded.{decoded}
 use Rattle.play.specs.Calls.{stateOf}

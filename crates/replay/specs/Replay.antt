@@ -12,8 +12,10 @@ use Rattle.scene.specs.Painting.{Room}
 use Rattle.scene.specs.Steps.{Scene, sameBox, clash, some, only, without, allowed, applied, refusal, bare, replay, replays}
 use Rattle.scene.specs.Steps as steps
 use Rattle.stored.specs.declared.Shown.{Shown}
-use Rattle.stored.specs.Bytes.{entries}
+use Rattle.stored.specs.Bytes.{entries, down, stepAt}
+use Rattle.replay.specs.declared.Size.{Size}
 use Rattle.replay.specs.declared.Spot.{Spot}
+use Rattle.replay.specs.Tables.{roomOfTables}
 
 pub data Plan : Type 0 where
   no : ℕ → Plan
@@ -66,3 +68,7 @@ hiddenOn o es = cond (some (λ e. eqb (e .object) o) es) (ok (without (λ e. eqb
 -- the shown list es, with the last places that a history gives
 abbrev pub sceneAfter : Room → List Step → List Entry → Scene
 sceneAfter room h es = record { shown = es; last = replay room (bare room) h .last }
+
+-- the list s after the first `upto` steps of a session, as the tables tell the room
+abbrev pub sceneAt : (objects verdicts : List ℕ) → Size → (session : List ℕ) → (upto : ℕ) → Shown → Scene
+sceneAt objects verdicts size session upto s = sceneAfter (roomOfTables objects verdicts size) (down (stepAt session) upto) (entries s)

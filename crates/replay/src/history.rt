@@ -6,7 +6,7 @@ ghost use lib.ListN.{length};
 ghost use Rattle.scene.specs.Steps.{Scene, moves, spotOf, bare, replay};
 ghost use Rattle.replay.specs.Tables.{roomOfTables, Sizes};
 ghost use Rattle.stored.specs.Bytes.{stepAt, down, entries};
-ghost use Rattle.replay.specs.Replay.{planOf, judged, drawnOn, hiddenOn, IsAt, Replayed};
+ghost use Rattle.replay.specs.Replay.{planOf, judged, drawnOn, hiddenOn, sceneAt, IsAt, Replayed};
 use crate::Size;
 use crate::Spot;
 use crate::list::empty;
@@ -50,7 +50,9 @@ fn moved(step: Step, object: u32, was: Spot) -> Spot
 // Where the object last was, after the first `upto` steps.
 pub fn last_place(session: &[u8], objects: &[u32], size: Size, object: u32, upto: usize) -> Spot
     requires { ⌜ (upto ≤ 64) × (450 ≤ length (now session)) × (1032 ≤ length (now objects)) × Sizes size ⌝ }
-    ensures { λ r. ⌜ ((v : List ℕ) → IsAt r (replay (roomOfTables (now (objects .entry)) v size) (bare (roomOfTables (now (objects .entry)) v size)) (down (stepAt (now (session .entry))) upto) .last object)) ⌝ }
+    ensures { λ r. ⌜ ((v : List ℕ) → IsAt r
+        (replay (roomOfTables (now (objects .entry)) v size) (bare (roomOfTables (now (objects .entry)) v size))
+        (down (stepAt (now (session .entry))) upto) .last object)) ⌝ }
 {
     let mut at = Spot {
         x: cell(objects, size, object, 1),
@@ -76,7 +78,8 @@ fn drawn(
     refusal: u8,
 ) -> Shown
     requires { ⌜ (1032 ≤ length (now objects)) × Sizes size × (s .n < 64) × (at .x < 68719476736) × (at .y < 68719476736) ⌝ }
-    ensures { λ r. ⌜ ((v : List ℕ) → planOf r ≡ drawnOn (roomOfTables (now (objects .entry)) v size) refusal (record { object = object; state = state; x = at .x; y = at .y }) (entries s)) × (r .n ≤ s .n + 1) ⌝ }
+    ensures { λ r. ⌜ ((v : List ℕ) → planOf r ≡ drawnOn (roomOfTables (now (objects .entry)) v size) refusal
+        (record { object = object; state = state; x = at .x; y = at .y }) (entries s)) × (r .n ≤ s .n + 1) ⌝ }
 {
     if fits(objects, size, object, at) {
         if refusal != 0 {
@@ -121,7 +124,8 @@ pub fn step_on(
     step: Step,
 ) -> Shown
     requires { ⌜ (upto < 64) × (450 ≤ length (now session)) × (1032 ≤ length (now objects)) × (1290 ≤ length (now verdicts)) × Sizes size × (s .n < 64) ⌝ }
-    ensures { λ r. ⌜ (planOf r ≡ judged (roomOfTables (now (objects .entry)) (now (verdicts .entry)) size) upto (record { shown = entries s; last = replay (roomOfTables (now (objects .entry)) (now (verdicts .entry)) size) (bare (roomOfTables (now (objects .entry)) (now (verdicts .entry)) size)) (down (stepAt (now (session .entry))) upto) .last }) step) × (r .n ≤ s .n + 1) ⌝ }
+    ensures { λ r. ⌜ (planOf r ≡ judged (roomOfTables (now (objects .entry)) (now (verdicts .entry)) size) upto
+        (sceneAt (now (objects .entry)) (now (verdicts .entry)) size (now (session .entry)) upto s) step) × (r .n ≤ s .n + 1) ⌝ }
 {
     match step {
         Step::Hide(object) => hidden(objects, size, s, object),
@@ -147,7 +151,8 @@ fn next(
     s: Shown,
     step: Step,
 ) -> Shown
-    requires { ⌜ (upto < 64) × (450 ≤ length (now session)) × (1032 ≤ length (now objects)) × (1290 ≤ length (now verdicts)) × Sizes size × Replayed (roomOfTables (now objects) (now verdicts) size) (down (stepAt (now session)) upto) s ⌝ }
+    requires { ⌜ (upto < 64) × (450 ≤ length (now session)) × (1032 ≤ length (now objects)) × (1290 ≤ length (now verdicts)) × Sizes size
+        × Replayed (roomOfTables (now objects) (now verdicts) size) (down (stepAt (now session)) upto) s ⌝ }
     ensures { λ r. ⌜ Replayed (roomOfTables (now (objects .entry)) (now (verdicts .entry)) size) (step ∷ down (stepAt (now (session .entry))) upto) r ⌝ }
 {
     if s.refusal != 0 {

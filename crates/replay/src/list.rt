@@ -81,7 +81,8 @@ fn taken(gone: bool, goes: bool) -> bool
 // The entries that go (gone true) or those that stay, when e is drawn (boxes true) or e's object is hidden.
 fn sift(objects: &[u32], size: Size, gone: bool, boxes: bool, s: Shown, e: Entry) -> Shown
     requires { ⌜ (1032 ≤ length (now objects)) × Sizes size × (s .n ≤ 64) ⌝ }
-    ensures { λ r. ⌜ ((v : List ℕ) → entries r ≡ sifted gone (Rattle.replay.specs.Replay.goes (roomOfTables (now (objects .entry)) v size) boxes e) (entries s)) × (r .n ≤ s .n) × (r .refusal ≡ 0) ⌝ }
+    ensures { λ r. ⌜ ((v : List ℕ) → entries r ≡ sifted gone
+        (Rattle.replay.specs.Replay.goes (roomOfTables (now (objects .entry)) v size) boxes e) (entries s)) × (r .n ≤ s .n) × (r .refusal ≡ 0) ⌝ }
 {
     let n = s.n;
     let mut t = empty();
@@ -99,7 +100,8 @@ fn sift(objects: &[u32], size: Size, gone: bool, boxes: bool, s: Shown, e: Entry
 // The entries that a draw of e (boxes true), or a hide of e's object, keeps.
 pub fn kept(objects: &[u32], size: Size, boxes: bool, s: Shown, e: Entry) -> Shown
     requires { ⌜ (1032 ≤ length (now objects)) × Sizes size × (s .n ≤ 64) ⌝ }
-    ensures { λ r. ⌜ ((v : List ℕ) → entries r ≡ without (Rattle.replay.specs.Replay.goes (roomOfTables (now (objects .entry)) v size) boxes e) (entries s)) × (r .n ≤ s .n) × (r .refusal ≡ 0) ⌝ }
+    ensures { λ r. ⌜ ((v : List ℕ) → entries r ≡ without
+        (Rattle.replay.specs.Replay.goes (roomOfTables (now (objects .entry)) v size) boxes e) (entries s)) × (r .n ≤ s .n) × (r .refusal ≡ 0) ⌝ }
 {
     sift(objects, size, false, boxes, s, e)
 }
@@ -107,7 +109,8 @@ pub fn kept(objects: &[u32], size: Size, boxes: bool, s: Shown, e: Entry) -> Sho
 // The entries that a draw of e (boxes true), or a hide of e's object, removes.
 pub fn removed(objects: &[u32], size: Size, boxes: bool, s: Shown, e: Entry) -> Shown
     requires { ⌜ (1032 ≤ length (now objects)) × Sizes size × (s .n ≤ 64) ⌝ }
-    ensures { λ r. ⌜ ((v : List ℕ) → entries r ≡ only (Rattle.replay.specs.Replay.goes (roomOfTables (now (objects .entry)) v size) boxes e) (entries s)) × (r .n ≤ s .n) × (r .refusal ≡ 0) ⌝ }
+    ensures { λ r. ⌜ ((v : List ℕ) → entries r ≡ only
+        (Rattle.replay.specs.Replay.goes (roomOfTables (now (objects .entry)) v size) boxes e) (entries s)) × (r .n ≤ s .n) × (r .refusal ≡ 0) ⌝ }
 {
     sift(objects, size, true, boxes, s, e)
 }

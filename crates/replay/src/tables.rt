@@ -59,7 +59,8 @@ pub fn same_box(objects: &[u32], size: Size, e: Entry, f: Entry) -> bool
 // Refusal 12 is given unless this holds of the place that an object is drawn at.
 pub fn fits(objects: &[u32], size: Size, object: u32, at: Spot) -> bool
     requires { ⌜ (1032 ≤ length (now objects)) × Sizes size × (at .x < 68719476736) × (at .y < 68719476736) ⌝ }
-    ensures { λ r. ⌜ ((v : List ℕ) (s : ℕ) → r ≡ allowed (roomOfTables (now (objects .entry)) v size) (record { object = object; state = s; x = at .x; y = at .y })) ⌝ }
+    ensures { λ r. ⌜ ((v : List ℕ) (s : ℕ) → r ≡ allowed (roomOfTables (now (objects .entry)) v size)
+        (record { object = object; state = s; x = at .x; y = at .y })) ⌝ }
 {
     let w = cell(objects, size, object, 3);
     let h = cell(objects, size, object, 4);

@@ -1,7 +1,7 @@
 -- Laws of runs: a room's refusal is 1 to 8 and a call's number at most 13; playing on a loaded session is playing from the load on; what
 -- stands at a place of the numbers; and demand 3 of the whole run. Assumes nothing.
 use Prim.Native.Nat.{ℕ, zero, suc, _+_, _≤_, _<_}
-use mathlib.Core.Path.{_≡_, refl, sym, ap, _∙_, subst}
+use mathlib.Core.Path.{_≡_, refl, sym, ap, _∙_}
 use mathlib.Core.Bool.{Bool, true, false, cond, not}
 use mathlib.Core.List.{List, [], _∷_}
 use mathlib.Core.Logic.{by-cases}

@@ -1,6 +1,6 @@
 -- What a caller cites: a call on the session's bytes is scene's `called` on the session that they hold, for any room that the tables tell.
 -- Assumes nothing.
-use Prim.Native.Nat.{ℕ, suc, _+_, _*_, _-_, _<_, _≤_}
+use Prim.Native.Nat.{ℕ, suc, _+_, _*_, _<_, _≤_}
 use mathlib.Core.Path.{_≡_, refl, sym, ap, subst, _∙_}
 use mathlib.Core.Bool.{Bool, true, false, cond}
 use mathlib.Core.List.{List, [], _∷_}
@@ -14,21 +14,19 @@ use Rattle.scene.specs.declared.Entry.{Entry}
 use Rattle.scene.specs.declared.Step.{Step}
 use Rattle.scene.specs.declared.Step.the-variants.{Draw, Hide}
 use Rattle.scene.specs.Painting.{Room, Surfaces}
-use Rattle.scene.specs.Steps.{Scene, without, entryOf, removes, adds, applied, touches, refusal, bare, replay, replays}
+use Rattle.scene.specs.Steps.{Scene, without, entryOf, removes, adds, applied, refusal, bare, replay, replays}
 use Rattle.scene.specs.Session.{Session, State, rightFor, sceneOf, refused, made, unmade, tried, called}
 use Rattle.replay.specs.declared.Size.{Size}
 use Rattle.replay.specs.Tables.{names, draws, roomOfTables, TablesAgree, askedBy}
-use Rattle.stored.specs.Bytes.{down, stepAt, stepsOf, readable, sessionOf, putShown, allPlaced, marksFrom, putHistory, putCall, entries}
-use Rattle.replay.specs.Replay.{Plan, no, ok, judged, planOf, sceneAfter}
-use Rattle.session.specs.Plans.{validShown, plannedRight, planned, undone, numberOf, bytesKept, newestTouches, callTouches}
-use Rattle.stored.specs.declared.Shown.{Shown}
-use Rattle.session.proofs.PlanLaws.{accepted-plan, accepted-back, list-is}
+use Rattle.stored.specs.Bytes.{stepAt, stepsOf, readable, sessionOf, putShown, allPlaced, marksFrom, putHistory, putCall}
+use Rattle.replay.specs.Replay.{no, ok, judged}
+use Rattle.session.specs.Plans.{validShown, plannedRight, planned, undone, numberOf, bytesKept}
 use Rattle.replay.proofs.Lists.{append-nil}
 use Rattle.number.proofs.BoolLaws.{or-left, or-right}
 use Rattle.session.proofs.BridgeLaws.{valid-same, back-same, planned-same}
 use Rattle.session.proofs.CalledLaws.{not-nine}
 use Rattle.stored.proofs.BytesLaws.{length-down, newest-length, dropped-length, steps-after, steps-dropped, shown-back}
-use Rattle.replay.proofs.ReplayLaws.{all-stand, placed-back, replays-older, replays-few, accepted-few, right-shown, right-scene}
+use Rattle.replay.proofs.ReplayLaws.{all-stand, placed-back, replays-few, accepted-few, right-shown, right-scene}
 
 -- ---- how long a shown list is
 

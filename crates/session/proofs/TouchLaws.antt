@@ -16,7 +16,7 @@ use Rattle.scene.specs.declared.Place.{Place}
 use Rattle.scene.specs.declared.Step.{Step}
 use Rattle.scene.specs.declared.Step.the-variants.{Draw, Hide}
 use Rattle.scene.specs.Painting.{Room, covers}
-use Rattle.scene.specs.Steps.{Scene, some, only, spotOf, entryOf, clash, removes, adds, touches, allowed, refusal, bare, replay, replays}
+use Rattle.scene.specs.Steps.{Scene, some, only, spotOf, entryOf, clash, removes, adds, touches, allowed, refusal, bare, replays}
 use Rattle.scene.specs.Session.{sceneOf}
 use Rattle.grid.proofs.Upd.{length-upd, getD-upd}
 use Rattle.replay.specs.declared.Size.{Size}

@@ -3,19 +3,22 @@
 use Prim.Native.Nat.{ℕ, _≤_}
 use mathlib.Core.Path.{_≡_}
 use mathlib.Core.Bool.{Bool, true, false, cond}
-use mathlib.Core.List.{List, [], _∷_}
+use mathlib.Core.List.{List, [], _∷_, _++_}
 use lib.Dec.{ltb}
 use lib.ListN.{length, getD}
 use Rattle.grid.specs.Grid.{upd}
 use Rattle.scene.specs.declared.Call.{Call}
 use Rattle.scene.specs.declared.Call.the-variants.{Make, TakeBack}
+use Rattle.scene.specs.declared.Entry.{Entry}
 use Rattle.scene.specs.declared.Step.{Step}
 use Rattle.scene.specs.Painting.{Room}
-use Rattle.scene.specs.Steps.{bare, replay, touches}
+use Rattle.scene.specs.Steps.{Scene, only, removes, adds, bare, refusal, replay, touches}
 use Rattle.scene.specs.Session.{Session, rightFor, sceneOf}
 use Rattle.stored.specs.declared.Shown.{Shown}
 use Rattle.stored.specs.Bytes.{sessionOf, Storable, putCall, All, SmallEntry, entries}
-use Rattle.replay.specs.Replay.{Plan, no, ok, judged, planOf}
+use Rattle.replay.specs.Replay.{Plan, no, ok, judged, planOf, sceneAt}
+use Rattle.replay.specs.Tables.{roomOfTables}
+use Rattle.replay.specs.declared.Size.{Size}
 
 -- 9 exactly if the session is not right for the room
 unfoldable pub validShown : Room → List ℕ → Plan
@@ -62,6 +65,15 @@ unfoldable pub flagged : (ℕ → Bool) → ℕ → List ℕ → List ℕ
 flagged f n l = upd (λ k old. cond (ltb k n) (flag (f k)) old) l
 
 -- ---- the code's own values
+
+-- for some verdicts the step is accepted on the list s, after the first `upto` steps
+abbrev pub Accepted : (objects : List ℕ) → Size → (session : List ℕ) → (upto : ℕ) → Shown → Step → Type 0
+Accepted objects size session upto s st =
+    (v : List ℕ) × (refusal (roomOfTables objects v size) upto (sceneAt objects v size session upto s) st ≡ 0)
+
+-- the entries that a step removes or adds
+abbrev pub changes : Room → Scene → Step → List Entry
+changes room sc st = only (removes room sc st) (sc .shown) ++ adds room sc st
 
 -- r is the list of a session that is right, or 9
 pub record ValidList (room : Room) (l : List ℕ) (r : Shown) : Type 0 where

@@ -1,14 +1,14 @@
 // The strips that a step touches: those covered by the entries that it removes or adds.
 ghost use mathlib.Core.Path.{_≡_};
-ghost use Prim.Native.Nat.{ℕ, _+_, _≤_, _<_};
-ghost use mathlib.Core.List.{List, _++_};
+ghost use Prim.Native.Nat.{ℕ, _≤_, _<_};
+ghost use mathlib.Core.List.{List};
 ghost use lib.ListN.{length};
 ghost use Rattle.scene.specs.Painting.{covers};
-ghost use Rattle.scene.specs.Steps.{adds, only, refusal, removes, some, touches};
+ghost use Rattle.scene.specs.Steps.{some, touches};
 ghost use Rattle.replay.specs.Tables.{roomOfTables, Sizes};
-ghost use Rattle.stored.specs.Bytes.{stepAt, down, entries};
-ghost use Rattle.replay.specs.Replay.{sceneAfter};
-ghost use Rattle.session.specs.Plans.{flag, flagged};
+ghost use Rattle.stored.specs.Bytes.{entries};
+ghost use Rattle.replay.specs.Replay.{sceneAt};
+ghost use Rattle.session.specs.Plans.{Accepted, changes, flag, flagged};
 use number::wide_u32;
 use replay::Size;
 use replay::history::last_place;
@@ -23,8 +23,10 @@ use stored::Shown;
 // The entries that a step removes from the list s or adds to it, after the first `upto` steps. The step is one that is accepted, so that
 // its place is in the room.
 fn changed(session: &[u8], objects: &[u32], size: Size, upto: usize, s: Shown, step: Step) -> Shown
-    requires { ⌜ (upto ≤ 64) × (450 ≤ length (now session)) × (1032 ≤ length (now objects)) × Sizes size × (s .n < 64) × ((v : List ℕ) × (refusal (roomOfTables (now objects) v size) upto (sceneAfter (roomOfTables (now objects) v size) (down (stepAt (now session)) upto) (entries s)) step ≡ 0)) ⌝ }
-    ensures { λ r. ⌜ ((v : List ℕ) → entries r ≡ only (removes (roomOfTables (now (objects .entry)) v size) (sceneAfter (roomOfTables (now (objects .entry)) v size) (down (stepAt (now (session .entry))) upto) (entries s)) step) (entries s) ++ adds (roomOfTables (now (objects .entry)) v size) (sceneAfter (roomOfTables (now (objects .entry)) v size) (down (stepAt (now (session .entry))) upto) (entries s)) step) × (r .n ≤ 64) ⌝ }
+    requires { ⌜ (upto ≤ 64) × (450 ≤ length (now session)) × (1032 ≤ length (now objects)) × Sizes size × (s .n < 64)
+        × Accepted (now objects) size (now session) upto s step ⌝ }
+    ensures { λ r. ⌜ ((v : List ℕ) → entries r ≡ changes (roomOfTables (now (objects .entry)) v size)
+        (sceneAt (now (objects .entry)) v size (now (session .entry)) upto s) step) × (r .n ≤ 64) ⌝ }
 {
     match step {
         Step::Hide(object) => {
@@ -89,7 +91,8 @@ fn bit(b: bool) -> u8
 // A byte for each of 128 strips: 1 where an entry of the list covers it, else 0.
 fn mark_strips(strips: &mut [u8], objects: &[u32], size: Size, s: Shown)
     requires { ⌜ (128 ≤ length (now strips)) × (1032 ≤ length (now objects)) × Sizes size × (s .n ≤ 64) ⌝ }
-    ensures { λ r. ⌜ ((v : List ℕ) → now (strips .exit) ≡ flagged (λ k. some (λ e. covers (roomOfTables (now (objects .entry)) v size) e k) (entries s)) 128 (now (strips .entry))) ⌝ }
+    ensures { λ r. ⌜ ((v : List ℕ) → now (strips .exit) ≡ flagged
+        (λ k. some (λ e. covers (roomOfTables (now (objects .entry)) v size) e k) (entries s)) 128 (now (strips .entry))) ⌝ }
 {
     let mut k = 0;
     while k < 128 {
@@ -110,8 +113,10 @@ pub fn touched(
     s: Shown,
     step: Step,
 )
-    requires { ⌜ (128 ≤ length (now strips)) × (upto ≤ 64) × (450 ≤ length (now session)) × (1032 ≤ length (now objects)) × Sizes size × (s .n < 64) × ((v : List ℕ) × (refusal (roomOfTables (now objects) v size) upto (sceneAfter (roomOfTables (now objects) v size) (down (stepAt (now session)) upto) (entries s)) step ≡ 0)) ⌝ }
-    ensures { λ r. ⌜ ((v : List ℕ) → now (strips .exit) ≡ flagged (touches (roomOfTables (now (objects .entry)) v size) (sceneAfter (roomOfTables (now (objects .entry)) v size) (down (stepAt (now (session .entry))) upto) (entries s)) step) 128 (now (strips .entry))) ⌝ }
+    requires { ⌜ (128 ≤ length (now strips)) × (upto ≤ 64) × (450 ≤ length (now session)) × (1032 ≤ length (now objects)) × Sizes size × (s .n < 64)
+        × Accepted (now objects) size (now session) upto s step ⌝ }
+    ensures { λ r. ⌜ ((v : List ℕ) → now (strips .exit) ≡ flagged (touches (roomOfTables (now (objects .entry)) v size)
+        (sceneAt (now (objects .entry)) v size (now (session .entry)) upto s) step) 128 (now (strips .entry))) ⌝ }
 {
     let t = changed(session, objects, size, upto, s, step);
     mark_strips(strips, objects, size, t);

@@ -5,7 +5,7 @@ use Rattle.room.specs.Test.{roomTest}
 use lib.ListN.{length}
 use denote.Ref.{now}
 use native.Mathlib.Omega.{arith}
-use mathlib.Core.Path.{_≡_, refl, sym, ap, _∙_}
+use mathlib.Core.Path.{sym, ap, _∙_}
 use borrow.Author.Needs.{needs}
 use Rattle.play.proofs.calls.call.Statement.{statement}
 use Rattle.play.proofs.calls.call.Tie as tie

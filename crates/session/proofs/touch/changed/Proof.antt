@@ -28,18 +28,34 @@ placed-requires c κs = search needs
 
 cast-t17 : tie.Need-cast-t17
 cast-t17 c =
-    let A = c .before .before .before .before .before .before .before .before .args in
-    let v = c .before .before .before .before .before .before .before .before .pre .5 .0 in
-    let sc : Scene = sceneAfter (roomOfTables (A .objects .now) v (A .size)) (down (stepAt (A .session .now)) (A .upto)) (entries (A .s)) in
-    let b = draw-near (A .objects .now) v (A .size) (c .before .before .before .before .before .before .before .before .pre .3) (A .upto) sc (c .before .before .before .before .step2 .given .0 .0) (c .before .before .before .before .step2 .given .0 .1 .0) (c .before .before .before .before .step2 .given .0 .1 .1 .0) (c .before .placed .result) (subst (λ (t : Step). refusal (roomOfTables (A .objects .now) v (A .size)) (A .upto) sc t ≡ 0) (c .before .before .before .before .step2 .given .1) (c .before .before .before .before .before .before .before .before .pre .5 .1)) (c .before .placed .ensures sc (c .before .before .before .before .step2 .given .0 .0) (c .before .before .last-place .ensures v)) in
+    let at = c .before in
+    let draw = at .before .before .before in
+    let start = draw .before .before .before .before in
+    let A = start .args in
+    let v = start .pre .5 .0 in
+    let T = roomOfTables (A .objects .now) v (A .size) in
+    let sc : Scene = sceneAfter T (down (stepAt (A .session .now)) (A .upto)) (entries (A .s)) in
+    let step = draw .step2 .given in
+    let fits = subst (λ (t : Step). refusal T (A .upto) sc t ≡ 0) (step .1) (start .pre .5 .1) in
+    let place = at .placed .ensures sc (step .0 .0) (at .before .last-place .ensures v) in
+    let near =
+    draw-near (A .objects .now) v (A .size) (start .pre .3) (A .upto) sc (step .0 .0) (step .0 .1 .0) (step .0 .1 .1 .0) (at .placed .result) fits place in
     omega arith
 
 cast-t18 : tie.Need-cast-t18
 cast-t18 c =
-    let A = c .before .before .before .before .before .before .before .before .before .args in
-    let v = c .before .before .before .before .before .before .before .before .before .pre .5 .0 in
-    let sc : Scene = sceneAfter (roomOfTables (A .objects .now) v (A .size)) (down (stepAt (A .session .now)) (A .upto)) (entries (A .s)) in
-    let b = draw-near (A .objects .now) v (A .size) (c .before .before .before .before .before .before .before .before .before .pre .3) (A .upto) sc (c .before .before .before .before .before .step2 .given .0 .0) (c .before .before .before .before .before .step2 .given .0 .1 .0) (c .before .before .before .before .before .step2 .given .0 .1 .1 .0) (c .before .before .placed .result) (subst (λ (t : Step). refusal (roomOfTables (A .objects .now) v (A .size)) (A .upto) sc t ≡ 0) (c .before .before .before .before .before .step2 .given .1) (c .before .before .before .before .before .before .before .before .before .pre .5 .1)) (c .before .before .placed .ensures sc (c .before .before .before .before .before .step2 .given .0 .0) (c .before .before .before .last-place .ensures v)) in
+    let at = c .before .before in
+    let draw = at .before .before .before in
+    let start = draw .before .before .before .before in
+    let A = start .args in
+    let v = start .pre .5 .0 in
+    let T = roomOfTables (A .objects .now) v (A .size) in
+    let sc : Scene = sceneAfter T (down (stepAt (A .session .now)) (A .upto)) (entries (A .s)) in
+    let step = draw .step2 .given in
+    let fits = subst (λ (t : Step). refusal T (A .upto) sc t ≡ 0) (step .1) (start .pre .5 .1) in
+    let place = at .placed .ensures sc (step .0 .0) (at .before .last-place .ensures v) in
+    let near =
+    draw-near (A .objects .now) v (A .size) (start .pre .3) (A .upto) sc (step .0 .0) (step .0 .1 .0) (step .0 .1 .1 .0) (at .placed .result) fits place in
     omega arith
 
 removed-requires-2 : tie.Need-removed-requires-2
@@ -50,13 +66,33 @@ push-if-requires c κs = search needs
 
 returns : tie.Need-returns
 returns c =
-    let A = c .before .before .before .before .before .before .args in
-    (λ v. rw (c .before .before .step .given .1) (hide-changed (roomOfTables (A .objects .now) v (A .size)) (sceneAfter (roomOfTables (A .objects .now) v (A .size)) (down (stepAt (A .session .now)) (A .upto)) (entries (A .s))) (record { object = c .before .before .step .given .0 .0; state = 0; x = 0; y = 0 }) (entries (A .s)) (entries (c .removed .result)) (c .removed .ensures .0 v)), omega (arith, c .removed .ensures .1))
+    let step = c .before .before .step .given in
+    let A = c .before .before .before .before .before .before .args in (
+      λ v.
+          let T = roomOfTables (A .objects .now) v (A .size) in
+          rw (step .1)
+          (hide-changed T (sceneAfter T (down (stepAt (A .session .now)) (A .upto)) (entries (A .s))) (record { object = step .0 .0; state = 0; x = 0; y = 0 })
+          (entries (A .s)) (entries (c .removed .result)) (c .removed .ensures .0 v)),
+      omega (arith, c .removed .ensures .1),
+    )
 
 returns-2 : tie.Need-returns-2
 returns-2 c =
-    let A = c .before .before .before .before .before .before .before .before .before .before .before .args in
-    (λ v. let sc : Scene = sceneAfter (roomOfTables (A .objects .now) v (A .size)) (down (stepAt (A .session .now)) (A .upto)) (entries (A .s)) in rw (c .before .before .before .before .before .before .before .step2 .given .1) (draw-changed (roomOfTables (A .objects .now) v (A .size)) sc (c .before .before .before .before .before .before .before .step2 .given .0 .0) (c .before .before .before .before .before .before .before .step2 .given .0 .1 .0) (c .before .before .before .before .before .before .before .step2 .given .0 .1 .1 .0) (c .before .before .before .before .placed .result) (entries (A .s)) (entries (c .before .removed2 .result)) (entries (c .push-if .result)) (c .before .before .before .before .placed .ensures sc (c .before .before .before .before .before .before .before .step2 .given .0 .0) (c .before .before .before .before .before .last-place .ensures v)) (c .before .removed2 .ensures .0 v) (c .push-if .ensures .0)), omega (arith, c .before .before .before .before .before .before .before .before .before .before .before .pre .4, c .push-if .ensures .1, c .before .removed2 .ensures .1))
+    let at = c .before .before .before .before in
+    let draw = at .before .before .before in
+    let start = draw .before .before .before .before in
+    let A = start .args in
+    let step = draw .step2 .given in
+    let gone = c .before .removed2 in (
+      λ v.
+          let T = roomOfTables (A .objects .now) v (A .size) in
+          let sc : Scene = sceneAfter T (down (stepAt (A .session .now)) (A .upto)) (entries (A .s)) in
+          let place = at .placed .ensures sc (step .0 .0) (at .before .last-place .ensures v) in
+          rw (step .1)
+          (draw-changed T sc (step .0 .0) (step .0 .1 .0) (step .0 .1 .1 .0) (at .placed .result) (entries (A .s)) (entries (gone .result))
+          (entries (c .push-if .result)) place (gone .ensures .0 v) (c .push-if .ensures .0)),
+      omega (arith, start .pre .4, c .push-if .ensures .1, gone .ensures .1),
+    )
 
 pub changed-spec : {M : Type 1} → statement M
 changed-spec =

@@ -1,10 +1,8 @@
 -- `stored::bytes::store_history` meets its contract. Assumes nothing.
 use Prim.Native.Nat.{_<_}
-use mathlib.Core.Path.{_≡_, subst}
+use mathlib.Core.Path.{subst}
 use native.Mathlib.Omega.{arith}
 use lib.ListN.{getD}
-use Rattle.scene.specs.declared.Call.{Call}
-use Rattle.scene.specs.declared.Call.the-variants.{Make, TakeBack}
 use Rattle.stored.specs.Bytes.{Storable}
 use borrow.Author.Needs.{needs}
 use Rattle.stored.proofs.bytes.store_history.Statement.{statement}
