@@ -8,7 +8,7 @@ change request 5, case by case; nothing of the Rattle code is asked.
 import os
 import struct
 
-TESTS = "crates/benchtest"
+TESTS = "crates/list_test"
 
 
 def block(tag, payload=b""):
@@ -300,8 +300,8 @@ def main():
         expected += name + "\n" + (answer if isinstance(answer, str) else "refused %d\n" % answer)
     open(TESTS + "/stdin", "w").write("".join(n + "\n" for n in names))
     open(TESTS + "/stdout", "w").write(expected)
-    open("crates/bench/stdin", "wb").write(LISTED)
-    open("crates/bench/stdout", "w").write(listed(16, 2, 1, [DOOR]))
+    open("crates/list_room/stdin", "wb").write(LISTED)
+    open("crates/list_room/stdout", "w").write(listed(16, 2, 1, [DOOR]))
     open("rooms/cellar.room", "wb").write(sample())
     write_strips_room("raw", grain, raw)
     write_strips_room("runs", rings, with_runs)

@@ -33,7 +33,8 @@ unfolding lowBits
 pull-low zero h x l le = simp (mod-one, sub-zero, div-one)
 pull-low (suc n) zero x l le = absurd (not-suc-le-zero le)
 pull-low (suc n) (suc h) x l le =
-    ap (below (eqb (x % 2) 1)) (pull-low n h (x / 2) l (le-of-suc-le-suc le)) ∙ ap₂ got (low-value n x) (ap₂ (λ (k y : ℕ). lowBits k y ++ l) (sym (suc-sub-suc h n)) (low-rest n x))
+    ap (below (eqb (x % 2) 1)) (pull-low n h (x / 2) l (le-of-suc-le-suc le)) ∙ ap₂ got (low-value n x)
+    (ap₂ (λ (k y : ℕ). lowBits k y ++ l) (sym (suc-sub-suc h n)) (low-rest n x))
 
 -- the bits of a number whose low m bits and the rest are known
 pub low-join : (m n a b : ℕ) → a < 2 ^ m → lowBits (m + n) (a + b * 2 ^ m) ≡ lowBits m a ++ lowBits n b

@@ -27,7 +27,8 @@ bits-byte s at h = rw (add-one, drop-cons s at 0 h)
 join : (m n a b : ℕ) (t l : List Bool) → a < 2 ^ m → l ≡ lowBits n b ++ t → lowBits m a ++ l ≡ lowBits (m + n) (a + b * 2 ^ m) ++ t
 join m n a b t l h e = rw (e, low-join m n a b h) (sym (append-assoc (lowBits m a) (lowBits n b) t))
 
-bits-word : (s : List ℕ) (at : ℕ) → at + 4 ≤ length s → ((i : ℕ) → Fits w8 (getD s i 0)) → bitsOf (drop at s) ≡ lowBits 32 (wordAt s at) ++ bitsOf (drop (at + 4) s)
+bits-word : (s : List ℕ) (at : ℕ) → at + 4 ≤ length s → ((i : ℕ) → Fits w8 (getD s i 0)) → bitsOf (drop at s) ≡ lowBits 32 (wordAt s at) ++ bitsOf
+    (drop (at + 4) s)
 bits-word s at h byte =
     let e3 : bitsOf (drop (at + 3) s) ≡ lowBits 8 (getD s (at + 3) 0) ++ bitsOf (drop (at + 4) s) = rw (at-on 3) at (bits-byte s (at + 3) (omega arith)) in
     let e2 : bitsOf (drop (at + 2) s) ≡ lowBits 16 (getD s (at + 2) 0 + getD s (at + 3) 0 * 256) ++ bitsOf (drop (at + 4) s) =

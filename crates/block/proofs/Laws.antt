@@ -79,7 +79,8 @@ module _ {A : Type 0} (last : Bool → A) (step : ℕ → ℕ → A → A) (s : 
   walk-bound (suc n) zero a h k = walk-stop (suc n) a (end-none s a e (omega arith)) ∙ sym (walk-stop zero a (end-none s a e (omega arith)))
   walk-bound (suc n) (suc m) a h k = go (blockEnd s a e) refl (λ z p q. walk-bound n m (suc z) p q)
     where
-      go : (b : ℕ) → blockEnd s a e ≡ b → ((z : ℕ) → e ≤ suc z + n → e ≤ suc z + m → walk last step n s (suc z) e ≡ walk last step m s (suc z) e) → walk last step (suc n) s a e ≡ walk last step (suc m) s a e
+      go : (b : ℕ) → blockEnd s a e ≡ b → ((z : ℕ) → e ≤ suc z + n → e ≤ suc z + m → walk last step n s (suc z) e ≡ walk last step m s (suc z) e) → walk last
+          step (suc n) s a e ≡ walk last step (suc m) s a e
       go zero p ih = walk-stop (suc n) a p ∙ sym (walk-stop (suc m) a p)
       go (suc z) p ih =
           let i = end-in s a e (λ q. omega (arith, p, q)) in

@@ -9,7 +9,8 @@ use native.Mathlib.Omega.{arith}
 use Rattle.bits.specs.Bits.{Pull, short, got, pull, bitsOf}
 use Rattle.strip.specs.declared.Made.{Made}
 use Rattle.strip.specs.declared.Made.the-variants.{All, Refused}
-use Rattle.strip.specs.Strip.{plus, minus, Move, refuse, go, choose, walkOp, runOp, changeOp, opOf, measured, moveOf, Strip, refused, pixels, madeOf, onto, decode}
+use Rattle.strip.specs.Strip.{plus, minus, Move, refuse, go, choose, walkOp, runOp, changeOp, opOf, measured, moveOf, Strip, refused, pixels, madeOf, onto}
+use Rattle.strip.specs.Strip.{decode}
 use Rattle.strip.specs.Picture.{shown, codedOf}
 use Rattle.decode.specs.Outcome.{outcome, testOf}
 use Rattle.strip.proofs.PictureLaws.{coded-some}
@@ -37,7 +38,8 @@ bare-change : (c s : ℕ) (p : Pull) → bare (changeOp c s p) ≡ bare (changeO
 bare-change c s short = refl
 bare-change c s (got d l) = go-on (eqb d 4)
   where
-    go-on : (t : Bool) → bare (choose t (runOp c s (pull 8 l)) (go 0 (minus (plus c d) 4) s l)) ≡ bare (choose t (runOp 0 0 (pull 8 l)) (go 0 (minus (plus 0 d) 4) 0 l))
+    go-on : (t : Bool) → bare (choose t (runOp c s (pull 8 l)) (go 0 (minus (plus c d) 4) s l)) ≡ bare
+        (choose t (runOp 0 0 (pull 8 l)) (go 0 (minus (plus 0 d) 4) 0 l))
     go-on true = bare-run c s (pull 8 l)
     go-on false = refl
 

@@ -21,7 +21,8 @@ use Rattle.strip.proofs.PlaceLaws.{gives-op, gives-kept}
 use Rattle.decode.specs.Paint.{Painted, Paints, Advances, Turned, Decoded}
 
 module _ (second : Bool) (w total : ℕ) (s : List ℕ) where
-  pub paints : (st to : State) (out out′ : List ℕ) → Gives second w total s st to → take (to .i) out′ ≡ take (st .i) out ++ replicate (to .i - st .i) (to .colour)
+  pub paints : (st to : State) (out out′ : List ℕ) → Gives second w total s st to → take (to .i) out′ ≡ take (st .i) out ++ replicate (to .i - st .i)
+      (to .colour)
       → Paints second w total s st out to out′
   paints st to out out′ g e =
       record {
@@ -67,7 +68,8 @@ module _ (second : Bool) (w : ℕ) where
             ∙ ap (λ (j : ℕ). take (st .i) out ++ replicate j (to .colour)) b);
       }
 
-  pub advances-on : (m n k : ℕ) (a b c : State) (p q r : List ℕ) → m + n ≤ k → Advances second w m a p b q → Advances second w n b q c r → Advances second w k a p c r
+  pub advances-on : (m n k : ℕ) (a b c : State) (p q r : List ℕ) → m + n ≤ k → Advances second w m a p b q → Advances second w n b q c r → Advances second w k a
+      p c r
   advances-on m n k a b c p q r le f g =
       record {
         forward = omega (arith, f .forward, g .forward);
@@ -94,7 +96,8 @@ kept-some second s c next zero zeros e f = absurd (true≢false (sym f ∙ sym (
 kept-some second s c next (suc k) zeros e f = omega arith
 
 -- the place `st` is the place `from`, with more bits held
-module _ (second : Bool) (w total : ℕ) (s : List ℕ) (from st : State) (ei : st .i ≡ from .i) (ec : st .colour ≡ from .colour) (es : st .step ≡ from .step) (er : rest s (st .cur) ≡ rest s (from .cur)) where
+module _ (second : Bool) (w total : ℕ) (s : List ℕ) (from st : State) (ei : st .i ≡ from .i) (ec : st .colour ≡ from .colour) (es : st .step ≡ from .step)
+    (er : rest s (st .cur) ≡ rest s (from .cur)) where
   same-ahead : ahead second w total s from ≡ ahead second w total s st
   same-ahead = λ i. decode second w (total - sym ei i) 0 (sym ec i) (sym es i) (sym er i)
 
@@ -152,7 +155,8 @@ module _ (second : Bool) (w total : ℕ) where
     pub paint-no : (n : ℕ) → ahead second w total s st ≡ refused n → x ≡ refused n
     paint-no n e = painted ∙ ap (prepend (take (st .i) out)) e
 
-  pub turned-as : (s : List ℕ) (st : State) (out out′ : List ℕ) {r r′ : Next} → r ≡ r′ → Turned second w total s st out out′ r → Turned second w total s st out out′ r′
+  pub turned-as : (s : List ℕ) (st : State) (out out′ : List ℕ) {r r′ : Next} → r ≡ r′ → Turned second w total s st out out′ r → Turned second w total s st out
+      out′ r′
   turned-as s st out out′ e h = subst (λ r. Turned second w total s st out out′ r) e h
 
 pub told-drew : (n : ℕ) (x : Strip) (out : List ℕ) {r r′ : Made} → r ≡ r′ → Decoded n x out r → Decoded n x out r′

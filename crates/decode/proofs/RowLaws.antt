@@ -30,7 +30,8 @@ unfolding rightRows
 right-row second t zero e x h = absurd (omega arith)
 right-row second t (suc n) e x h =
     by-cases (ℕ-discrete x n)
-    (λ z. subst (λ (k : ℕ). getD t k 0 ≡ packed (wholeOps second (lowBits 8 k))) (sym z) (eqb-true (getD t n 0) (packed (wholeOps second (lowBits 8 n))) (and-left _ (rightRows second t n) e)))
+    (λ z. subst (λ (k : ℕ). getD t k 0 ≡ packed (wholeOps second (lowBits 8 k))) (sym z)
+    (eqb-true (getD t n 0) (packed (wholeOps second (lowBits 8 n))) (and-left _ (rightRows second t n) e)))
     (λ z. right-row second t n (and-right (eqb (getD t n 0) (packed (wholeOps second (lowBits 8 n)))) _ e) x (omega (arith, z)))
 
 fits-of : (n : ℕ) → fitting n ≡ true → Small n

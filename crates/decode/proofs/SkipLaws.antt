@@ -42,7 +42,8 @@ bounded-ops second (false ∷ l) = bounded-after 1 (length l) (suc (length l)) (
 bounded-ops second (true ∷ []) = bounded-none 1
 bounded-ops second (true ∷ false ∷ l) = (omega arith, omega arith, omega arith)
 bounded-ops false (true ∷ true ∷ []) = bounded-none 2
-bounded-ops false (true ∷ true ∷ a ∷ l) = bounded-after 3 (length l) (suc (suc (suc (length l)))) (wholeOps false l) (omega arith) (omega arith) (bounded-ops false l)
+bounded-ops false (true ∷ true ∷ a ∷ l) = bounded-after 3 (length l) (suc (suc (suc (length l)))) (wholeOps false l) (omega arith) (omega arith)
+    (bounded-ops false l)
 bounded-ops true (true ∷ true ∷ []) = bounded-none 2
 bounded-ops true (true ∷ true ∷ a ∷ []) = bounded-none 3
 bounded-ops true (true ∷ true ∷ a ∷ b ∷ []) = bounded-none 4
@@ -133,7 +134,8 @@ kept-went second w s st k next zeros =
 
 -- ---- one place after another
 
-pub went-on : (second : Bool) (w : ℕ) (s : List ℕ) (a b c : State) → a .i ≤ b .i → b .i ≤ c .i → Skipped second w s a b → Skipped second w s b c → Skipped second w s a c
+pub went-on : (second : Bool) (w : ℕ) (s : List ℕ) (a b c : State) → a .i ≤ b .i → b .i ≤ c .i → Skipped second w s a b → Skipped second w s b c → Skipped
+    second w s a c
 went-on second w s a b c h k f g =
     record {
       on = λ n.

@@ -13,7 +13,7 @@ use Rattle.objects.specs.declared.Place.{Place}
 use Rattle.objects.specs.declared.Place.the-variants as place
 use Rattle.room.proofs.TestLaws.{test-passes, surfaces-long}
 use Rattle.actor.proofs.ActorLaws.{refused-keeps}
-use Rattle.blocks.specs.Call.{number, Outcome, refused, written, smapOutcome, planeOutcome, answerOf, targetAfter}
+use Rattle.block_writer.specs.Call.{number, Outcome, refused, written, smapOutcome, planeOutcome, answerOf, targetAfter}
 use Rattle.costume.proofs.Theorems.{start-unchanged}
 use Rattle.limbs.proofs.Theorems.{tick-unchanged}
 use Rattle.load.specs.Load.{sessionAfter, pixelsAfter, masksAfter}

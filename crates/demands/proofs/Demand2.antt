@@ -3,7 +3,7 @@ use mathlib.Core.Path.{refl}
 use native.Mathlib.Omega.{arith}
 use Rattle.actor.proofs.ActorLaws as actor
 use Rattle.bits.proofs.ReaderLaws as reader
-use Rattle.blocks.proofs.ReadBack.{smap-call-pixel, plane-call-reads}
+use Rattle.block_writer.proofs.ReadBack.{smap-call-pixel, plane-call-reads}
 use Rattle.demands.specs.Demand2.{Demand2}
 use Rattle.demands.proofs.StripReads as reads
 

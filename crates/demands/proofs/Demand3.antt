@@ -1,22 +1,22 @@
 -- Demand 3 holds, from every accepted load on and for every list of calls: crate play's theorem, said of the bytes.
 use Prim.Native.Nat.{ℕ}
-use mathlib.Core.Path.{_≡_, refl, sym, ap, _∙_, subst}
+use mathlib.Core.Path.{_≡_, refl, sym, ap, _∙_}
 use mathlib.Core.Bool.{Bool, true, false, cond}
 use mathlib.Core.List.{List, [], _∷_, map}
 use lib.Dec.{eqb}
 use native.Mathlib.Omega.{arith}
 use Rattle.room.specs.declared.Room as bytes
 use Rattle.room.specs.declared.Tested.the-variants.{Right}
-use Rattle.scene.specs.Painting.{Room, Surfaces}
+use Rattle.scene.specs.Painting.{Room}
 use Rattle.scene.specs.Session as scene
 use Rattle.scene.specs.declared.Call.{Call}
 use Rattle.scene.specs.declared.Call.the-variants.{Make, TakeBack}
-use Rattle.scene.specs.Session.{State, called, stateAfter, sceneOf}
+use Rattle.scene.specs.Session.{State, stateAfter, sceneOf}
 use Rattle.layers.specs.Decoded.{decoded}
 use Rattle.play.specs.Calls.{stateOf}
 use Rattle.play.specs.Bytes.{Lent, testOf, numberOf, bytesAfter}
 use Rattle.play.proofs.Demand3 as play
-use Rattle.demands.specs.Demand3.{sceneIn, surfacesIn, stacked, befores, Restored, Demand3}
+use Rattle.demands.specs.Demand3.{surfacesIn, stacked, befores, Restored, Demand3}
 use Rattle.demands.proofs.Demand1.{demand1}
 
 module _ (s : List ℕ) (r : bytes.Room) (b : Lent) (accepted : testOf s b ≡ Right r) where

@@ -42,5 +42,7 @@ shown =
     ++ (0x19 ∷ 0x1A ∷ 0x1B ∷ 0x1C ∷ 0x1D ∷ 0x1E ∷ 0x1F ∷ 0x20 ∷ 0x0C ∷ 0x0C ∷ 0x0C ∷ 0x0C ∷ 0x0C ∷ 0x0C ∷ 0x0C ∷ 0x7E ∷ [])
 
 pub loaded-room : (numberOf (loadTest room session lent []) ≡ 0) × (pixelsAfter room (loadTest room session lent []) lent ≡ shown ++ (0xEE ∷ []))
-unfolding lowBits bitsOf upd within boxed decode fiveFrom kindOf placed rawOf codedOf stripOf container blockEnd walk run blockOk wellFormed tagged payload eachHas offsetAt offsetRight offsetsRight tableRight bodyEnd bodyOf stripAt pixelAt stripTest leftmost blockTest headedIn backgroundIn neededIn objectsRight sizesRight roomOf sized headOf imTest picturesTest short afterHead roomTest background loadedPixels
+unfolding lowBits bitsOf upd within boxed decode fiveFrom kindOf placed rawOf codedOf stripOf container blockEnd walk run blockOk wellFormed tagged payload
+    eachHas offsetAt offsetRight offsetsRight tableRight bodyEnd bodyOf stripAt pixelAt stripTest leftmost blockTest headedIn backgroundIn neededIn objectsRight
+    sizesRight roomOf sized headOf imTest picturesTest short afterHead roomTest background loadedPixels
 loaded-room = (refl, refl)

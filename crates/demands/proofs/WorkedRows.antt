@@ -10,9 +10,9 @@ use Rattle.strip.specs.Picture.{Picture, refusal, picture, fiveFrom, kindOf, pl
 use Rattle.plane.specs.Mask.{literals, rowsOf}
 use Rattle.table.specs.Table.{offsetAt}
 use Rattle.table.specs.Body.{bodyEnd, bodyOf, rowsAt}
-use Rattle.writer.specs.Pack.{packed}
-use Rattle.writer.specs.Pixels.{opBits, stepOf, opsBits, stripBody}
-use Rattle.writer.specs.Rows.{runLength, literalLength, opRows, opBytes, opsBytes, allZero, rowsBody}
+use Rattle.strip_writer.specs.Pack.{packed}
+use Rattle.strip_writer.specs.Pixels.{opBits, stepOf, opsBits, stripBody}
+use Rattle.strip_writer.specs.Rows.{runLength, literalLength, opRows, opBytes, opsBytes, allZero, rowsBody}
 
 same : List ℕ → List ℕ → Bool
 same [] [] = true

@@ -16,7 +16,7 @@ use Rattle.objects.specs.Object.{placeNumber, headerCall, headerAfter}
 use Rattle.actor.specs.Stamp.{stampNumber, stampFrame}
 use Rattle.costume.specs.Start.{startNumber, startBytes}
 use Rattle.limbs.specs.Tick.{tickNumber, tickBytes}
-use Rattle.blocks.specs.Call.{number, smapOutcome, planeOutcome, answerOf, targetAfter}
+use Rattle.block_writer.specs.Call.{number, smapOutcome, planeOutcome, answerOf, targetAfter}
 use Rattle.scene.specs.declared.Call.{Call}
 use Rattle.play.specs.Bytes as play
 

@@ -26,8 +26,8 @@ use Rattle.room.specs.declared.Tested.the-variants.{Right}
 use Rattle.load.specs.Load.{loadTest, pixelsAfter}
 use Rattle.actor.specs.Hidden.{hiddenAt, maskBit}
 use Rattle.actor.specs.Stamp.{stampNumber, stampFrame}
-use Rattle.blocks.specs.Call.{smapOutcome, planeOutcome, answerOf, targetAfter}
-use Rattle.blocks.specs.declared.Wrote.the-variants.{Block}
+use Rattle.block_writer.specs.Call.{smapOutcome, planeOutcome, answerOf, targetAfter}
+use Rattle.block_writer.specs.declared.Wrote.the-variants.{Block}
 
 -- every number of a list is a byte
 abbrev pub Bytes : List ℕ → Type 0

@@ -53,22 +53,27 @@ unfolding objectId imageBlock objectBlock firstOf hasId tagged run walk blockEnd
 images = (refl, refl, refl, refl, refl, refl, refl)
 
 -- IMHD's numbers, 0 where there is no image
-header : (homeX room 1 ≡ 8) × (homeY room 1 ≡ 2) × (imageWidth room 1 ≡ 8) × (imageHeight room 1 ≡ 1) × (imageCount room 1 ≡ 1) × (homeX room 2 ≡ 0) × (imageWidth room 2 ≡ 0)
+header : (homeX room 1 ≡ 8) × (homeY room 1 ≡ 2) × (imageWidth room 1 ≡ 8) × (imageHeight room 1 ≡ 1) × (imageCount room 1 ≡ 1) × (homeX room 2 ≡ 0) ×
+    (imageWidth room 2 ≡ 0)
 unfolding homeX homeY imageWidth imageHeight imageCount objectId imageBlock objectBlock firstOf hasId tagged run walk blockEnd payload
 header = (refl, refl, refl, refl, refl, refl, refl)
 
 -- states: IM01 of the first OBIM; IM02 is above its numImages, and stands in the second
-states : (stateBlock room 1 1 ≡ At 101 136) × (stateBlock room 1 2 ≡ Missing) × (drawable room 1 1 ≡ true) × (drawable room 1 0 ≡ false) × (drawable room 1 2 ≡ false)
+states : (stateBlock room 1 1 ≡ At 101 136) × (stateBlock room 1 2 ≡ Missing) × (drawable room 1 1 ≡ true) × (drawable room 1 0 ≡ false) ×
+    (drawable room 1 2 ≡ false)
     × (drawable room 2 1 ≡ false) × (drawable room 0 1 ≡ false) × (drawable room 3 1 ≡ false)
 unfolding drawable stateBlock imageCount objectId imageBlock objectBlock firstOf hasId tagged run walk blockEnd payload
 states = (refl, refl, refl, refl, refl, refl, refl, refl)
 
 -- pixels: code 30 is transparent and each value is 255; masks: ZP01's row, and 0 for plane 2, which has no chunk
 pixels : (imageColour room 1 1 0 0 3 ≡ 255) × (imageClear room 1 1 0 0 3 ≡ true) × (imageBits room 1 1 1 0 0 ≡ 0xF0) × (imageBits room 1 1 2 0 0 ≡ 0)
-unfolding imageColour imageClear imageBits imageStrip stripAt bodyOf bodyEnd offsetAt stripOf codedOf placed kindOf fiveFrom decode lowBits bitsOf maskAt rowsAt rowsOf stateBlock imageWidth imageHeight objectId imageBlock objectBlock firstOf hasId tagged run walk blockEnd payload
+unfolding imageColour imageClear imageBits imageStrip stripAt bodyOf bodyEnd offsetAt stripOf codedOf placed kindOf fiveFrom decode lowBits bitsOf maskAt rowsAt
+    rowsOf stateBlock imageWidth imageHeight objectId imageBlock objectBlock firstOf hasId tagged run walk blockEnd payload
 pixels = (refl, refl, refl, refl)
 
 -- the image passes with any count of planes; one without SMAP is 2: here the payload of the OBIM of id 9
 faults : (imageFault 0 room 1 1 ≡ Passed) × (imageFault 4 room 1 1 ≡ Passed) × (imageTest 1 1 1 room 16 40 ≡ Refused 2)
-unfolding imageFault imageTest imTest planeTest blockTest tableRight offsetsRight offsetRight leftmost stripTest stripAt bodyOf bodyEnd offsetAt stripOf codedOf placed kindOf fiveFrom decode lowBits bitsOf rowsAt rowsOf stateBlock imageWidth imageHeight objectId imageBlock objectBlock firstOf hasId tagged run walk blockEnd payload
+unfolding imageFault imageTest imTest planeTest blockTest tableRight offsetsRight offsetRight leftmost stripTest stripAt bodyOf bodyEnd offsetAt stripOf codedOf
+    placed kindOf fiveFrom decode lowBits bitsOf rowsAt rowsOf stateBlock imageWidth imageHeight objectId imageBlock objectBlock firstOf hasId tagged run walk
+    blockEnd payload
 faults = (refl, refl, refl)

@@ -51,7 +51,8 @@ module _ (s : List ℕ) (row : Found → List ℕ) (t₀ : List ℕ) where
 
   module _ (t : List ℕ) (at n b z : ℕ) (l : Listing t at n) (found : At b z ≡ findTag tag-OBCD s at (length s)) where
     first : (At b z ≡ nthTag tag-OBCD s 8 (length s) n) × (tagged tag-OBCD s z (length s) ≡ drop (suc n) (tagged tag-OBCD s 8 (length s))) × (n < objectCount s)
-    first = drop-first (tagged tag-OBCD s 8 (length s)) n (At b z) (tagged tag-OBCD s z (length s)) (sym (walk-found tag-OBCD s (length s) at b z found) ∙ l .rest)
+    first = drop-first (tagged tag-OBCD s 8 (length s)) n (At b z) (tagged tag-OBCD s z (length s))
+        (sym (walk-found tag-OBCD s (length s) at b z found) ∙ l .rest)
 
     pub list-one : n < objectCount s
     list-one = first .2
@@ -66,7 +67,8 @@ module _ (s : List ℕ) (row : Found → List ℕ) (t₀ : List ℕ) where
           few = omega (arith, list-one);
           rest = rw add-one (first .1);
           rows = λ o one h. by-cases (ℕ-discrete o (n + 1))
-              (λ e. subst⁻¹ (λ (q : ℕ). (c : ℕ) → c < 8 → getD t' (8 * q + c) 0 ≡ getD (row (objectBlock s q)) c 0) e (λ c k. put .new c k ∙ ap (λ (f : Found). getD (row f) c 0) block-here))
+              (λ e. subst⁻¹ (λ (q : ℕ). (c : ℕ) → c < 8 → getD t' (8 * q + c) 0 ≡ getD (row (objectBlock s q)) c 0) e
+              (λ c k. put .new c k ∙ ap (λ (f : Found). getD (row f) c 0) block-here))
               (λ ne c k. put .old o c ne k ∙ l .rows o one (omega arith) c k);
         }
 
@@ -165,11 +167,13 @@ module _ (s t t' : List ℕ) (objects b z : ℕ) where
       → cond (eqb (le16 s p) i && eqb start 0) (getD (rowFrom s (le16 s p) (At p z) (b + 8) z) c 0) old
       ≡ cond (headerHas s i imhd && eqb start 0) (getD (rowFrom s i imhd (b + 8) z) c 0) old
   offered-cell p y imhd at i start c old =
-      subst (λ (f : Found). cond (eqb (le16 s p) i && eqb start 0) (getD (rowFrom s (le16 s p) (At p z) (b + 8) z) c 0) old ≡ cond (headerHas s i f && eqb start 0) (getD (rowFrom s i f (b + 8) z) c 0) old) at
+      subst (λ (f : Found). cond (eqb (le16 s p) i && eqb start 0) (getD (rowFrom s (le16 s p) (At p z) (b + 8) z) c 0) old ≡ cond
+      (headerHas s i f && eqb start 0) (getD (rowFrom s i f (b + 8) z) c 0) old) at
       (go (eqb (le16 s p) i) refl)
     where
       go : (q : Bool) → eqb (le16 s p) i ≡ q
-          → cond (q && eqb start 0) (getD (rowFrom s (le16 s p) (At p z) (b + 8) z) c 0) old ≡ cond (q && eqb start 0) (getD (rowFrom s i (At p y) (b + 8) z) c 0) old
+          → cond (q && eqb start 0) (getD (rowFrom s (le16 s p) (At p z) (b + 8) z) c 0) old ≡ cond (q && eqb start 0)
+          (getD (rowFrom s i (At p y) (b + 8) z) c 0) old
       go true e = ap (λ (k : ℕ). cond (eqb start 0) (getD (rowFrom s k (At p y) (b + 8) z) c 0) old) (eqb-true (le16 s p) i e)
       go false e = refl
 

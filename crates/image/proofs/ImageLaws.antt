@@ -122,7 +122,8 @@ module _ (s : List ℕ) where
     unfolding drawable
     drawable-missing h = rw (← h, and-false (isObject s o && isAt (imageBlock s o) && stateRight st (imageCount s o)))
 
-    pub drawable-at : (images b z : ℕ) → images ≡ imageCount s o → isObject s o ≡ true → stateRight st images ≡ true → At b z ≡ stateBlock s o st → true ≡ drawable s o st
+    pub drawable-at : (images b z : ℕ) → images ≡ imageCount s o → isObject s o ≡ true → stateRight st images ≡ true → At b z ≡ stateBlock s o st → true ≡
+        drawable s o st
     unfolding drawable stateBlock
     drawable-at images b z e h g at =
         let there : isAt (stateIn s st (imageBlock s o)) ≡ true = rw (← at) in

@@ -1,13 +1,13 @@
 -- The length of a written block fits 32 bits. Assumes nothing.
-use Prim.Native.Nat.{ℕ, _<_, _^_}
+use Prim.Native.Nat.{ℕ, _<_}
 use mathlib.Core.Path.{_≡_, refl}
 use mathlib.Core.List.{List}
 use native.Mathlib.Omega.{arith}
 use lib.ListN.{length}
-use Rattle.blocks.specs.Call.{smapOutcome, planeOutcome, answerOf, targetAfter}
-use Rattle.blocks.specs.declared.Wrote.{Wrote}
-use Rattle.blocks.specs.declared.Wrote.the-variants.{Block, Refused}
-use Rattle.blocks.proofs.ReadBack.{smap-short, plane-short}
+use Rattle.block_writer.specs.Call.{smapOutcome, planeOutcome, answerOf, targetAfter}
+use Rattle.block_writer.specs.declared.Wrote.{Wrote}
+use Rattle.block_writer.specs.declared.Wrote.the-variants.{Block, Refused}
+use Rattle.block_writer.proofs.ReadBack.{smap-short, plane-short}
 use Rattle.kildegrom.specs.Word.{lengthOf}
 
 module _ (w h : ℕ) (rows d : List ℕ) where

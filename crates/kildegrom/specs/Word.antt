@@ -7,8 +7,8 @@ use Rattle.costume.specs.declared.Started.{Started}
 use Rattle.costume.specs.declared.Started.the-variants as started
 use Rattle.limbs.specs.declared.Drawn.{Drawn}
 use Rattle.limbs.specs.declared.Drawn.the-variants as drawn
-use Rattle.blocks.specs.declared.Wrote.{Wrote}
-use Rattle.blocks.specs.declared.Wrote.the-variants as wrote
+use Rattle.block_writer.specs.declared.Wrote.{Wrote}
+use Rattle.block_writer.specs.declared.Wrote.the-variants as wrote
 use Rattle.point.specs.declared.Pointed.{Pointed}
 use Rattle.point.specs.declared.Pointed.the-variants as pointed
 

@@ -61,7 +61,8 @@ module _ (l : List ℕ) (i : ℕ) (x : Limb) (fits : 16 * i + 16 ≤ length l) w
   pub put-start : (j k : ℕ) → j ≡ 16 * i + 8 + k → k < 4 → getD (putLimb l i x) j 0 ≡ getD (le32Bytes (x .start)) k 0
   unfolding putLimb le32Bytes
   put-start j k e h =
-      sets-below (le32Bytes (x .place)) window (16 * i + 12) j (omega arith) ∙ sets-in (le32Bytes (x .start)) head (16 * i + 8) j k e h (omega (arith, length-head))
+      sets-below (le32Bytes (x .place)) window (16 * i + 12) j (omega arith) ∙ sets-in (le32Bytes (x .start)) head (16 * i + 8) j k e h
+      (omega (arith, length-head))
 
   pub put-place : (j k : ℕ) → j ≡ 16 * i + 12 + k → k < 4 → getD (putLimb l i x) j 0 ≡ getD (le32Bytes (x .place)) k 0
   unfolding putLimb le32Bytes
@@ -73,7 +74,8 @@ four-back n h =
     let a : n / 65536 ≡ n / 256 / 256 = omega arith in
     let b : n / 16777216 ≡ n / 65536 / 256 = omega arith in
     let c : n / 16777216 % 256 ≡ n / 16777216 = omega arith in
-    joined (n % 256) (n / 256 % 256) (n / 65536 % 256) (n / 16777216 % 256) (n / 256) (n / 65536) (n / 16777216) (div-add-mod' n 256) (rw (← a) at (div-add-mod' (n / 256) 256)) (rw (← b) at (div-add-mod' (n / 65536) 256)) c
+    joined (n % 256) (n / 256 % 256) (n / 65536 % 256) (n / 16777216 % 256) (n / 256) (n / 65536) (n / 16777216) (div-add-mod' n 256)
+    (rw (← a) at (div-add-mod' (n / 256) 256)) (rw (← b) at (div-add-mod' (n / 65536) 256)) c
   where
     joined : (r0 r1 r2 r3 p q r : ℕ) → p * 256 + r0 ≡ n → q * 256 + r1 ≡ p → r * 256 + r2 ≡ q → r3 ≡ r → r0 + r1 * 256 + r2 * 65536 + r3 * 16777216 ≡ n
     joined r0 r1 r2 r3 p q r d e f g = omega arith
@@ -87,7 +89,8 @@ four-of l at b (suc (suc (suc zero))) h = omega (arith, b at, b (at + 1), b (at 
 four-of l at b (suc (suc (suc (suc k)))) h = absurd (omega arith)
 
 -- two limbs with equal fields
-limb-eq : (x y : Limb) → x .active ≡ y .active → x .stopped ≡ y .stopped → x .noloop ≡ y .noloop → x .shows ≡ y .shows → x .picture ≡ y .picture → x .len ≡ y .len → x .start ≡ y .start → x .place ≡ y .place → x ≡ y
+limb-eq : (x y : Limb) → x .active ≡ y .active → x .stopped ≡ y .stopped → x .noloop ≡ y .noloop → x .shows ≡ y .shows → x .picture ≡ y .picture → x .len ≡
+    y .len → x .start ≡ y .start → x .place ≡ y .place → x ≡ y
 limb-eq x y a b c d e f g h = λ i. record { active = a i; stopped = b i; noloop = c i; shows = d i; picture = e i; len = f i; start = g i; place = h i }
 
 -- what is put is read back
@@ -163,7 +166,8 @@ module _ (f : ℕ → Limb → Limb) (l : List ℕ) (i : ℕ) where
     -- its two bytes that are not used stay
     pub each-unused : (j : ℕ) → 16 * i + 6 ≤ j → j < 16 * i + 8 → getD (eachLimb f n l) j 0 ≡ getD l j 0
     each-unused j a b =
-        each-since n j below (omega arith) ∙ put-unused (eachLimb f i l) i (f i (limbAt l i)) (rw length-each (omega arith)) j a b ∙ each-above f l i j (omega arith)
+        each-since n j below (omega arith) ∙ put-unused (eachLimb f i l) i (f i (limbAt l i)) (rw length-each (omega arith)) j a b ∙ each-above f l i j
+        (omega arith)
 
     -- a limb that f leaves has all its bytes as they were
     pub each-kept : Bytes l → f i (limbAt l i) ≡ limbAt l i → (j : ℕ) → 16 * i ≤ j → j < 16 * i + 16 → getD (eachLimb f n l) j 0 ≡ getD l j 0

@@ -73,7 +73,8 @@ module _ (s l : List ℕ) (v : ℕ) (ok : tickNumber s l v ≡ 0) where
       tick-again =
           let right : limbsRight (length s - (v - 6)) (tickBytes s l v) ≡ true =
           ap (limbsRight (length s - (v - 6))) tick-is
-          ∙ limbs-put (length s - (v - 6)) (λ k. tickedLimb (stream s v)) l (ticks .whole) ticked-small (λ i h. ticked-right (length s - (v - 6)) (stream s v) (limbAt l i) (lent-right i h)) in
+          ∙ limbs-put (length s - (v - 6)) (λ k. tickedLimb (stream s v)) l (ticks .whole) ticked-small
+          (λ i h. ticked-right (length s - (v - 6)) (stream s v) (limbAt l i) (lent-right i h)) in
           rw (tick-length, le-ltb (length l) 256 (ticks .whole), le-leb 6 v (ticks .low), le-leb (v - 6) (length s) (ticks .high), length-drop (v - 6) s, right)
 
 -- ---- nothing changes where a tick is refused

@@ -52,8 +52,10 @@ module _ (n : ℕ) where
   unfolding movedOn
   moved-right x h = go (ltb (x .place + 1) (x .start + x .len)) refl (flag (x .noloop))
     where
-      go : (t : Bool) → ltb (x .place + 1) (x .start + x .len) ≡ t → (k : Bool) → RightIn n (cond t (withPlace (x .place + 1) x) (cond k x (withPlace (x .start) x)))
-      go true e k = let lt = ltb-true (x .place + 1) (x .start + x .len) e in record { some = h .some; few = h .few; inside = h .inside; from = omega arith; to = lt }
+      go : (t : Bool) → ltb (x .place + 1) (x .start + x .len) ≡ t → (k : Bool) → RightIn n
+          (cond t (withPlace (x .place + 1) x) (cond k x (withPlace (x .start) x)))
+      go true e k = let lt = ltb-true (x .place + 1) (x .start + x .len) e in record
+          { some = h .some; few = h .few; inside = h .inside; from = omega arith; to = lt }
       go false e true = h
       go false e false = record { some = h .some; few = h .few; inside = h .inside; from = omega arith; to = omega arith }
 
@@ -102,7 +104,8 @@ pub tick-accepted : (s l : List ℕ) (v n : ℕ) → n ≡ tickNumber s l v → 
 unfolding tickNumber
 tick-accepted s l v n e z = go (ltb (length l) 256) refl (commandRight s v) refl (limbsRight (length (stream s v)) l) refl (sym e ∙ z)
   where
-    go : (a : Bool) → ltb (length l) 256 ≡ a → (b : Bool) → commandRight s v ≡ b → (c : Bool) → limbsRight (length (stream s v)) l ≡ c → _≡_ {A = ℕ} (cond a 4 (cond (b && c) 0 15)) 0 → Ticks s l v
+    go : (a : Bool) → ltb (length l) 256 ≡ a → (b : Bool) → commandRight s v ≡ b → (c : Bool) → limbsRight (length (stream s v)) l ≡ c → _≡_ {A = ℕ}
+        (cond a 4 (cond (b && c) 0 15)) 0 → Ticks s l v
     go true p b q c r h = absurd (omega arith)
     go false p true q true r h =
         record {
@@ -119,6 +122,7 @@ pub tick-kept : (s l : List ℕ) (v n : ℕ) → n ≡ tickNumber s l v → (n �
 unfolding tickBytes
 tick-kept s l v n e z = rw (← e, ne-eqb _ _ z)
 
-pub tick-done : (s l m : List ℕ) (v n : ℕ) → n ≡ tickNumber s l v → n ≡ 0 → m ≡ eachLimb (λ i. tickedLimb (drop (v - 6) s)) 16 l → (0 ≡ tickNumber s l v) × (m ≡ tickBytes s l v)
+pub tick-done : (s l m : List ℕ) (v n : ℕ) → n ≡ tickNumber s l v → n ≡ 0 → m ≡ eachLimb (λ i. tickedLimb (drop (v - 6) s)) 16 l → (0 ≡ tickNumber s l v) ×
+    (m ≡ tickBytes s l v)
 unfolding tickBytes
 tick-done s l m v n e z d = (sym z ∙ e, rw (← e, eq-eqb _ _ z) d)

@@ -40,7 +40,8 @@ module _ (s : List ℕ) where
   nul-in zero p = unfold nulFrom in omega arith
   nul-in (suc n) p = go (eqb (getD s p 0) 0) refl (nul-in n (p + 1))
     where
-      go : (b : Bool) → eqb (getD s p 0) 0 ≡ b → (p + 1 ≤ nulFrom n s (p + 1)) × (nulFrom n s (p + 1) ≤ p + 1 + n) → (p ≤ nulFrom (suc n) s p) × (nulFrom (suc n) s p ≤ p + suc n)
+      go : (b : Bool) → eqb (getD s p 0) 0 ≡ b → (p + 1 ≤ nulFrom n s (p + 1)) × (nulFrom n s (p + 1) ≤ p + 1 + n) → (p ≤ nulFrom (suc n) s p) ×
+          (nulFrom (suc n) s p ≤ p + suc n)
       go true h i = rw (← nul-suc (suc n) n p true refl h) (omega arith)
       go false h i = rw (← nul-suc (suc n) n p false refl h) (omega arith)
 

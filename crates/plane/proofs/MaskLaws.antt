@@ -153,7 +153,8 @@ rows-as s at k e h = subst (λ r. RowsAt s at k r) e h
 -- ---- going on from the bytes t to the bytes u, past the rows xs
 
 module _ (t u xs : List ℕ) (k n : ℕ) (gives : rowsOf t k (literals 0) ≡ prepend xs (rowsOf u (k - n) (literals 0))) where
-  pub painted-on : (x : Strip) (out out′ : List ℕ) (h i : ℕ) → k ≡ h - i → x ≡ prepend (take i out) (rowsOf t k (literals 0)) → take (i + n) out′ ≡ take i out ++ xs
+  pub painted-on : (x : Strip) (out out′ : List ℕ) (h i : ℕ) → k ≡ h - i → x ≡ prepend (take i out) (rowsOf t k (literals 0)) → take (i + n) out′ ≡ take i out
+      ++ xs
       → x ≡ prepend (take (i + n) out′) (rowsOf u (h - (i + n)) (literals 0))
   painted-on x out out′ h i e so-far stored =
       let left : k - n ≡ h - (i + n) = omega arith in
@@ -165,7 +166,8 @@ module _ (t u xs : List ℕ) (k n : ℕ) (gives : rowsOf t k (literals 0) ≡ pr
   pub tested-on : (m : Made) → m ≡ madeOf (rowsOf t k (literals 0)) → m ≡ madeOf (rowsOf u (k - n) (literals 0))
   tested-on m so-far = so-far ∙ ap madeOf gives ∙ made-prepend xs (rowsOf u (k - n) (literals 0))
 
-pub rows-all : (t : List ℕ) (p : Pending) (i h : ℕ) (out d : List ℕ) (x : Strip) → i ≡ h → x ≡ prepend (take i out) (rowsOf t (h - i) p) → drop i out ≡ drop i d → Filled h x d out All
+pub rows-all : (t : List ℕ) (p : Pending) (i h : ℕ) (out d : List ℕ) (x : Strip) → i ≡ h → x ≡ prepend (take i out) (rowsOf t (h - i) p) → drop i out ≡ drop i d
+    → Filled h x d out All
 rows-all t p i h out d x e f g = (
   f
       ∙ ap (prepend (take i out)) (rows-done t (h - i) p (omega arith))

@@ -104,5 +104,6 @@ module _ (s : List ℕ) (r : room.Room) where
   listed flat n es long same fine =
       record {
         long = long;
-        each = λ i lt. paintable (entryAt flat i) (all-at (Fine (decoded s r)) flat n (subst (λ (x : List Entry). All (Fine (decoded s r)) x) (sym same) fine) i lt);
+        each = λ i lt. paintable (entryAt flat i) (all-at (Fine (decoded s r)) flat n (subst (λ (x : List Entry). All (Fine (decoded s r)) x) (sym same) fine) i
+            lt);
       }

@@ -53,13 +53,15 @@ module _ (s : List ℕ) (r : room.Room) (sound : Sound s r) where
       ap (λ (w : ℕ). upd (boxed w 0 0 w (r .height) (λ x y o. background s r x y)) l) wide
       ∙ (upd-ext _ _ l
       (λ i lt. full-box (8 * strips r) (r .height) (background s r) i (getD l i 0) (omega (arith, sound .narrowest, wide))
-      ∙ ap (λ (b : Bool). cond b (background s r (i % (8 * strips r)) (i / (8 * strips r))) (getD l i 0)) (sym (and-true (ltb i (r .height * (8 * strips r)))))))
+      ∙ ap (λ (b : Bool). cond b (background s r (i % (8 * strips r)) (i / (8 * strips r))) (getD l i 0))
+      (sym (and-true (ltb i (r .height * (8 * strips r)))))))
 
   masks-loaded : (l : List ℕ) → loadedMasks s r l ≡ rebuiltBytes (maskLayout D) [] (λ k. true) l
   unfolding loadedMasks maskLayout decoded rebuiltBytes newByte freshByte layered
   masks-loaded l =
       upd-ext _ _ l
-      (λ i lt. full-box (strips r) (r .planes * r .height) (λ k q. mask s r (q / r .height + 1) k (q % r .height)) i (getD l i 0) (omega (arith, sound .narrowest, wide))
+      (λ i lt. full-box (strips r) (r .planes * r .height) (λ k q. mask s r (q / r .height + 1) k (q % r .height)) i (getD l i 0)
+      (omega (arith, sound .narrowest, wide))
       ∙ ap (λ (b : Bool). cond b (mask s r (i / strips r / r .height + 1) (i % strips r) (i / strips r % r .height)) (getD l i 0))
       (sym (and-true (ltb i (r .planes * r .height * strips r)))))
 

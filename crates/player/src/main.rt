@@ -1,15 +1,15 @@
 // The player: player ROOM CALLS [ROOM CALLS].. loads the room in each first file and plays on it the calls in the second, 20 bytes a call
-// (crate runner, specs/Coded.antt). It prints a line for each call with its number, then Adler-32 of the pixels and of the masks; or
+// (crate call_list, specs/Coded.antt). It prints a line for each call with its number, then Adler-32 of the pixels and of the masks; or
 // `refused N` where the load is refused. What is printed is tested against stored outputs; the run and the checksum are proved.
 ghost use mathlib.Core.Path.{_≡_};
 ghost use Prim.Native.Nat.{_≤_, _<_};
 ghost use lib.ListN.{length};
 ghost use Rattle.player.specs.Adler.{adler32};
+use call_list::calls::call_count;
 use number::wide;
 use room::Room;
 use room::Tested;
 use room::head::read_head;
-use runner::calls::call_count;
 
 fn text(bytes: &[u8]) {
     io::write_all(1, bytes);
@@ -90,7 +90,7 @@ fn play(room: &[u8], calls: &[u8]) {
     let mut pixels = pixel_buffer();
     let mut masks = mask_buffer();
     let mut numbers = io::buffer();
-    let refusal = runner::run(
+    let refusal = call_list::run(
         room,
         &mut session,
         &mut pixels,

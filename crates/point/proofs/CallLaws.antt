@@ -1,34 +1,30 @@
 -- The answer of the point question, from the session's list as the tables settle it.
 use Prim.Native.Nat.{ℕ, zero, suc, _≤_, _<_}
 use mathlib.Core.Path.{_≡_, refl, sym, ap, _∙_}
-use mathlib.Core.Bool.{Bool, true, false, cond, _&&_, _||_}
+use mathlib.Core.Bool.{Bool, true, false, _||_}
 use mathlib.Core.List.{List}
-use native.Mathlib.Omega.{arith}
 use mathlib.Core.Bool.{true≢false}
 use borrow.Author.Tests.{lt-ltb, le-ltb, ltb-false, eq-eqb, ne-eqb}
 use lib.Dec.{ltb, eqb}
-use lib.ListN.{length}
 use Rattle.room.specs.Test.{short, withFlags}
 use Rattle.room.specs.declared.Room as room
 use Rattle.scene.specs.Painting.{Room}
-use Rattle.scene.specs.Steps.{Scene}
 use Rattle.scene.specs.Session.{rightFor, sceneOf}
 use Rattle.scene.specs.declared.Entry.{Entry}
 use Rattle.stored.specs.Bytes.{sessionOf, stepsOf, readable, entries}
-use Rattle.replay.specs.Replay.{Plan, no, ok, planOf, sceneAfter}
+use Rattle.replay.specs.Replay.{planOf, sceneAfter}
 use Rattle.session.specs.Plans.{validShown}
 use Rattle.replay.specs.Tables.{TablesAgree, roomOfTables}
 use Rattle.stored.specs.declared.Shown.{Shown}
-use Rattle.replay.specs.declared.Size.{Size}
 use Rattle.session.proofs.Caller.{valid-known}
 use Rattle.replay.proofs.JudgedLaws.{plan-means}
 use Rattle.layers.specs.Decoded.{decoded}
 use Rattle.verdict.specs.Size.{sizeOf}
 use Rattle.point.specs.Objects.{objectsOf}
 use Rattle.point.specs.Point.{objectAt}
-use Rattle.point.specs.Call.{found, inside, asked}
+use Rattle.point.specs.Call.{found, asked}
 use Rattle.point.specs.declared.Pointed.{Pointed}
-use Rattle.point.specs.declared.Pointed.the-variants.{Object, Nothing, Refused}
+use Rattle.point.specs.declared.Pointed.the-variants.{Object, Refused}
 
 -- a session and flags that are not too short
 pub flags-long : (size n flags : ℕ) (r : room.Room) → short (withFlags size n flags) r ≡ false → (size ≤ n) × (r .objects ≤ flags)

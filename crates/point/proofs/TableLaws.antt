@@ -1,10 +1,10 @@
 -- The code's tables tell the room's objects and the shown states: the hit test by the tables is the definition's, and so is the object.
 use Prim.Native.Nat.{ℕ, zero, suc, _+_, _*_, _-_, _≤_, _<_}
-use mathlib.Core.Path.{_≡_, refl, sym, ap, _∙_, subst}
+use mathlib.Core.Path.{_≡_, refl, sym, ap, _∙_}
 use mathlib.Core.Bool.{Bool, true, false, cond, not, _&&_, false≢true}
 use mathlib.Core.List.{List, [], _∷_}
 use native.Mathlib.Omega.{arith}
-use borrow.Author.Tests.{eqb-true, eq-eqb, ne-eqb, leb-true, le-leb, not-true, not-false}
+use borrow.Author.Tests.{eqb-true, eq-eqb, ne-eqb, leb-true, not-true, not-false}
 use lib.Dec.{eqb, leb}
 use lib.ListN.{getD}
 use Rattle.objects.specs.Object.{objectBlock}
@@ -193,7 +193,8 @@ module _ (s t₀ t : List ℕ) (filled : Filled s (objectRow true s) t₀ t) (si
     unfolding isOpen
     climb-same zero o one le = refl
     climb-same (suc links) o one le =
-        (λ i. cond (eqb (parent-is o one le i) 0) true (leb (parent-is o one le i) (count-is i) && lets (flags-is o one le i) (stateOf es (parent-is o one le i)) && isOpen S (stateOf es) links (parent-is o one le i)))
+        (λ i. cond (eqb (parent-is o one le i) 0) true (leb (parent-is o one le i) (count-is i) && lets (flags-is o one le i)
+        (stateOf es (parent-is o one le i)) && isOpen S (stateOf es) links (parent-is o one le i)))
         ∙ go (λ k one le. climb-same links k one le) (eqb (B .parent o) 0) refl
       where
         on : ((k : ℕ) → 1 ≤ k → k ≤ size .count → isOpen S (stateOf es) links k ≡ isOpen B (stateIn states) links k)
@@ -227,7 +228,8 @@ module _ (s t₀ t : List ℕ) (filled : Filled s (objectRow true s) t₀ t) (si
         unfolding left
         left-is = go (after room h o .set) refl
           where
-            go : (b : Bool) → after room h o .set ≡ b → cond b (after room h o .x) (S .x o) ≡ cond (after (roomOfTables t [] size) h o .set) (after (roomOfTables t [] size) h o .x) (B .x o)
+            go : (b : Bool) → after room h o .set ≡ b → cond b (after room h o .x) (S .x o) ≡ cond (after (roomOfTables t [] size) h o .set)
+                (after (roomOfTables t [] size) h o .x) (B .x o)
             go true e = rw (← (sym e ∙ both .0)) (ap (λ (p : Spot). p .x) (both .1 e))
             go false e = rw (← (sym e ∙ both .0)) (x-is o one le)
 
@@ -235,7 +237,8 @@ module _ (s t₀ t : List ℕ) (filled : Filled s (objectRow true s) t₀ t) (si
         unfolding top
         top-is = go (after room h o .set) refl
           where
-            go : (b : Bool) → after room h o .set ≡ b → cond b (after room h o .y) (S .y o) ≡ cond (after (roomOfTables t [] size) h o .set) (after (roomOfTables t [] size) h o .y) (B .y o)
+            go : (b : Bool) → after room h o .set ≡ b → cond b (after room h o .y) (S .y o) ≡ cond (after (roomOfTables t [] size) h o .set)
+                (after (roomOfTables t [] size) h o .y) (B .y o)
             go true e = rw (← (sym e ∙ both .0)) (ap (λ (p : Spot). p .y) (both .1 e))
             go false e = rw (← (sym e ∙ both .0)) (y-is o one le)
 

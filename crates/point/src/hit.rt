@@ -78,7 +78,8 @@ pub fn lowest_hit(
     requires { ⌜ (1032 ≤ length (now boxes)) × (129 ≤ length (now states)) × (450 ≤ length (now session))
         × Sizes size × (steps ≤ 64) × (size .count ≤ length (now flags)) ⌝ }
     ensures { λ r. ⌜ r
-        ≡ lowest (hitIn (now (boxes .entry)) (now (states .entry)) size (down (stepAt (now (session .entry))) steps) (now (flags .entry)) x y) 1 (size .count) ⌝ }
+        ≡ lowest (hitIn (now (boxes .entry)) (now (states .entry)) size (down (stepAt (now (session .entry))) steps)
+        (now (flags .entry)) x y) 1 (size .count) ⌝ }
 {
     let count = size.count;
     let mut o: usize = 1;

@@ -47,7 +47,8 @@ module _ (objects verdicts : List ℕ) (size : Size) (n : ℕ) (few : n < 64) (s
   unfolding judged refusal applied adds removes roomOfTables
   judged-draw o s p =
       rw (lt-leb 64 n few)
-      (draw-plan (eqb (verdictOf verdicts (size .count) o s) 11) (allowed (roomOfTables objects verdicts size) (entryOf sc o s p)) (verdictOf verdicts (size .count) o s)
+      (draw-plan (eqb (verdictOf verdicts (size .count) o s) 11) (allowed (roomOfTables objects verdicts size) (entryOf sc o s p))
+      (verdictOf verdicts (size .count) o s)
       (without (λ f. clash (roomOfTables objects verdicts size) f (entryOf sc o s p)) (sc .shown) ++ entryOf sc o s p ∷ []))
 
   pub judged-hide : (o : ℕ) → judged (roomOfTables objects verdicts size) n sc (Hide o) ≡ hiddenOn o (sc .shown)

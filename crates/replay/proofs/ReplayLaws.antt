@@ -157,7 +157,8 @@ module _ (room : Room) where
   unfolding rightFor sessionOf
   right-is l =
       ap (λ (b : Bool). replays room (bare room) (stepsOf l) && b)
-      (sym (same-placed (replay room (bare room) (stepsOf l) .last) (marksFrom l 0 (getD l 1 0)) (replay room (bare room) (stepsOf l) .shown) (all-stand room (stepsOf l))))
+      (sym (same-placed (replay room (bare room) (stepsOf l) .last) (marksFrom l 0 (getD l 1 0)) (replay room (bare room) (stepsOf l) .shown)
+      (all-stand room (stepsOf l))))
 
   pub right-shown : (l : List ℕ) → rightFor room (sessionOf room l) ≡ true
       → (replays room (bare room) (stepsOf l) ≡ true) × (sessionOf room l .shown ≡ replay room (bare room) (stepsOf l) .shown)

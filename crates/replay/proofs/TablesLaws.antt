@@ -13,7 +13,8 @@ use Rattle.scene.specs.declared.Entry.{Entry}
 use Rattle.scene.specs.declared.Step.{Step}
 use Rattle.scene.specs.declared.Step.the-variants.{Draw, Hide}
 use Rattle.scene.specs.Painting.{Room, covers}
-use Rattle.scene.specs.Steps.{Scene, some, only, without, entryOf, sameBox, clash, removes, adds, moves, applied, touches, allowed, refusal, bare, replay, replays}
+use Rattle.scene.specs.Steps.{Scene, some, only, without, entryOf, sameBox, clash, removes, adds, moves, applied, touches, allowed, refusal, bare, replay}
+use Rattle.scene.specs.Steps.{replays}
 use Rattle.replay.specs.declared.Size.{Size}
 use Rattle.replay.specs.Tables.{cellOf, verdictOf, roomOfTables, Sizes, draws, names, sized, TablesAgree}
 use Rattle.replay.specs.Replay.{no, ok, judged}

@@ -29,7 +29,8 @@ module _ (room : Room) (objects verdicts : List ℕ) (size : Size) (steps : List
   right-same : (ss : Session) → ((o s : ℕ) → names (ss .history) o s ≡ true → names steps o s ≡ true) → rightFor room ss ≡ rightFor T ss
   unfolding rightFor
   right-same ss k =
-      ap₂ _&&_ (replays-same room objects verdicts size steps K (ss .history) k) (ap (λ (sc : Scene). sameList (ss .shown) (sc .shown)) (replay-same room objects verdicts size steps K (ss .history)))
+      ap₂ _&&_ (replays-same room objects verdicts size steps K (ss .history) k)
+      (ap (λ (sc : Scene). sameList (ss .shown) (sc .shown)) (replay-same room objects verdicts size steps K (ss .history)))
 
   scene-same : (ss : Session) → sceneOf room ss ≡ sceneOf T ss
   unfolding sceneOf

@@ -153,7 +153,8 @@ module _ (room : Room) where
       where
         go : (r : Bool) → rightFor room s0 ≡ r
             → (cond r (unmade room (stepsOf l) b) (refused 9 b) .number ≡ numberOf (cond r (undone room (stepsOf l)) (no 9)))
-            × (cond r (unmade room (stepsOf l) b) (refused 9 b) .after .session ≡ sessionOf room (bytesKept l TakeBack (cond r (undone room (stepsOf l)) (no 9))))
+            × (cond r (unmade room (stepsOf l) b) (refused 9 b) .after .session ≡ sessionOf room
+            (bytesKept l TakeBack (cond r (undone room (stepsOf l)) (no 9))))
         go false q = (refl, refl)
         go true q = undone-case (stepsOf l) refl q
 

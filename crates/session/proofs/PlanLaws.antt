@@ -26,7 +26,8 @@ use Rattle.stored.proofs.Lists.{all-map, some-all}
 use Rattle.replay.proofs.TablesLaws.{verdict-bounds, allowed-bounds}
 use Rattle.replay.proofs.JudgedLaws.{plan-no, plan-ok, plan-means, no-one}
 use Rattle.stored.proofs.BytesLaws.{length-down}
-use Rattle.replay.proofs.ReplayLaws.{There, accepted-few, accepted-draw, accepted-hide, applied-there, all-there, replays-older, replays-few, right-is, right-shown, right-scene}
+use Rattle.replay.proofs.ReplayLaws.{There, accepted-few, accepted-draw, accepted-hide, applied-there, all-there, replays-older, replays-few, right-is}
+use Rattle.replay.proofs.ReplayLaws.{right-shown, right-scene}
 
 -- ---- the list of a session that is right
 

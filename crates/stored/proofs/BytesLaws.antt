@@ -12,7 +12,8 @@ use Rattle.scene.specs.declared.Entry.{Entry}
 use Rattle.scene.specs.declared.Place.the-variants.{Last, Strip}
 use Rattle.scene.specs.declared.Step.{Step}
 use Rattle.scene.specs.declared.Step.the-variants.{Draw, Hide}
-use Rattle.stored.specs.Bytes.{down, stepOf, stepAt, kindOf, objectOf, stateOf, aOf, bOf, put5, putStep, Mark, mark, markAt, marksFrom, isMark, sameMarks, putMarks, putShown, stepsOf, putHistory, putCall, All, SmallEntry}
+use Rattle.stored.specs.Bytes.{down, stepOf, stepAt, kindOf, objectOf, stateOf, aOf, bOf, put5, putStep, Mark, mark, markAt, marksFrom, isMark, sameMarks}
+use Rattle.stored.specs.Bytes.{putMarks, putShown, stepsOf, putHistory, putCall, All, SmallEntry}
 use Rattle.stored.proofs.Lists.{all-at}
 
 pub stepOf-strip : (k o s a b : ℕ) → (k ≡ 0 → ⊥) → (k ≡ 1 → ⊥) → Draw o s (Strip a b) ≡ stepOf k o s a b
@@ -44,17 +45,21 @@ module _ (l : List ℕ) (at k o s a b : ℕ) where
   length-put5 = simp length-set
 
   pub put5-below : (j : ℕ) → j < at → getD (put5 l at k o s a b) j 0 ≡ getD l j 0
-  put5-below j h = before l4 (at + 4) j b (omega arith) ∙ before l3 (at + 3) j a (omega arith) ∙ before l2 (at + 2) j s (omega arith) ∙ before l1 (at + 1) j o (omega arith) ∙ before l at j k (omega arith)
+  put5-below j h = before l4 (at + 4) j b (omega arith) ∙ before l3 (at + 3) j a (omega arith) ∙ before l2 (at + 2) j s (omega arith) ∙ before l1 (at + 1) j o
+      (omega arith) ∙ before l at j k (omega arith)
 
   module _ (fits : at + 5 ≤ length l) where
     pub put5-0 : getD (put5 l at k o s a b) at 0 ≡ k
-    put5-0 = before l4 (at + 4) at b (omega arith) ∙ before l3 (at + 3) at a (omega arith) ∙ before l2 (at + 2) at s (omega arith) ∙ before l1 (at + 1) at o (omega arith) ∙ getD-set-same l at k 0 (omega arith)
+    put5-0 = before l4 (at + 4) at b (omega arith) ∙ before l3 (at + 3) at a (omega arith) ∙ before l2 (at + 2) at s (omega arith) ∙ before l1 (at + 1) at o
+        (omega arith) ∙ getD-set-same l at k 0 (omega arith)
 
     pub put5-1 : getD (put5 l at k o s a b) (at + 1) 0 ≡ o
-    put5-1 = before l4 (at + 4) (at + 1) b (omega arith) ∙ before l3 (at + 3) (at + 1) a (omega arith) ∙ before l2 (at + 2) (at + 1) s (omega arith) ∙ getD-set-same l1 (at + 1) o 0 (simp length-set (omega arith))
+    put5-1 = before l4 (at + 4) (at + 1) b (omega arith) ∙ before l3 (at + 3) (at + 1) a (omega arith) ∙ before l2 (at + 2) (at + 1) s (omega arith) ∙
+        getD-set-same l1 (at + 1) o 0 (simp length-set (omega arith))
 
     pub put5-2 : getD (put5 l at k o s a b) (at + 2) 0 ≡ s
-    put5-2 = before l4 (at + 4) (at + 2) b (omega arith) ∙ before l3 (at + 3) (at + 2) a (omega arith) ∙ getD-set-same l2 (at + 2) s 0 (simp length-set (omega arith))
+    put5-2 = before l4 (at + 4) (at + 2) b (omega arith) ∙ before l3 (at + 3) (at + 2) a (omega arith) ∙ getD-set-same l2 (at + 2) s 0
+        (simp length-set (omega arith))
 
     pub put5-3 : getD (put5 l at k o s a b) (at + 3) 0 ≡ a
     put5-3 = before l4 (at + 4) (at + 3) b (omega arith) ∙ getD-set-same l3 (at + 3) a 0 (simp length-set (omega arith))
@@ -62,13 +67,21 @@ module _ (l : List ℕ) (at k o s a b : ℕ) where
     pub put5-4 : getD (put5 l at k o s a b) (at + 4) 0 ≡ b
     put5-4 = getD-set-same l4 (at + 4) b 0 (simp length-set (omega arith))
 
-    pub stepOf-put5 : stepOf (getD (put5 l at k o s a b) at 0) (getD (put5 l at k o s a b) (at + 1) 0) (getD (put5 l at k o s a b) (at + 2) 0) (getD (put5 l at k o s a b) (at + 3) 0) (getD (put5 l at k o s a b) (at + 4) 0) ≡ stepOf k o s a b
+    pub stepOf-put5 : stepOf (getD (put5 l at k o s a b) at 0) (getD (put5 l at k o s a b) (at + 1) 0) (getD (put5 l at k o s a b) (at + 2) 0)
+        (getD (put5 l at k o s a b) (at + 3) 0) (getD (put5 l at k o s a b) (at + 4) 0) ≡ stepOf k o s a b
     stepOf-put5 = rw (put5-0, put5-1, put5-2, put5-3, put5-4)
 
 -- a record is what its five bytes say
 pub stepAt-same : (l m : List ℕ) (i : ℕ) → ((j : ℕ) → 2 + 5 * i ≤ j → j < 2 + 5 * i + 5 → getD l j 0 ≡ getD m j 0) → stepAt l i ≡ stepAt m i
 stepAt-same l m i h =
-    rw (h (2 + 5 * i) (omega arith) (omega arith), h (2 + 5 * i + 1) (omega arith) (omega arith), h (2 + 5 * i + 2) (omega arith) (omega arith), h (2 + 5 * i + 3) (omega arith) (omega arith), h (2 + 5 * i + 4) (omega arith) (omega arith))
+    rw (
+      h (2 + 5 * i) (omega arith) (omega arith),
+      h (2 + 5 * i + 1) (omega arith) (omega arith),
+      h (2 + 5 * i + 2) (omega arith) (omega arith),
+      h
+          (2 + 5 * i + 3) (omega arith) (omega arith),
+      h (2 + 5 * i + 4) (omega arith) (omega arith),
+    )
 
 module _ (l : List ℕ) (i : ℕ) (t : Step) where
   -- what was put is read back
@@ -199,7 +212,8 @@ module _ (l : List ℕ) (st : Step) (h : List Step) (es : List Entry) (long : 45
       shown-first (putHistory l TakeBack) es ∙ getD-set-same l 0 (getD l 0 0 - 1) 0 (omega arith) ∙ omega arith in
       ap (down (stepAt (putCall l TakeBack es))) one
       ∙ down-same (stepAt (putCall l TakeBack es)) (stepAt l) (length h)
-      (λ j g. shown-step (putHistory l TakeBack) es j (omega arith) ∙ stepAt-same (putHistory l TakeBack) l j (λ i a b. after l 0 i (getD l 0 0 - 1) (omega arith)))
+      (λ j g. shown-step (putHistory l TakeBack) es j (omega arith) ∙ stepAt-same (putHistory l TakeBack) l j
+      (λ i a b. after l 0 i (getD l 0 0 - 1) (omega arith)))
       ∙ older-is
 
 -- ---- the loops over marks
@@ -254,7 +268,8 @@ module _ (list : List Entry) (n : ℕ) (fits : n ≤ length list) where
 
   -- one more mark is stored; all are
   pub put-more : (l : List ℕ) (i : ℕ) (d : Entry) → i < n
-      → putMarks l i (drop i es) ≡ putMarks (set (set l (322 + 2 * i) (getD list i d .object)) (322 + 2 * i + 1) (getD list i d .state)) (i + 1) (drop (i + 1) es)
+      → putMarks l i (drop i es) ≡ putMarks (set (set l (322 + 2 * i) (getD list i d .object)) (322 + 2 * i + 1) (getD list i d .state)) (i + 1)
+      (drop (i + 1) es)
   unfolding putMarks
   put-more l i d h = rw (next-entry i d h, add-one i)
 

@@ -56,7 +56,8 @@ module _ (w c s v : ℕ) (l m : List Bool) (head : pull 2 l ≡ got v m) (one : 
   pub change-not-run : (d : ℕ) (t : List Bool) → v / 2 ≡ 1 → pull 3 m ≡ got d t → runAhead true l ≡ false → d ≡ 4 → ⊥
   unfolding lowBits
   change-not-run d t e p no-run four =
-      true≢false (sym (ap (runAhead true) (one-and v l m head one 1 e ∙ ap (λ (k : List Bool). true ∷ true ∷ k) (pull-is 3 d m t p .0 ∙ ap (λ (x : ℕ). lowBits 3 x ++ t) four))) ∙ no-run)
+      true≢false (sym (ap (runAhead true) (one-and v l m head one 1 e ∙ ap (λ (k : List Bool). true ∷ true ∷ k)
+      (pull-is 3 d m t p .0 ∙ ap (λ (x : ℕ). lowBits 3 x ++ t) four))) ∙ no-run)
 
 -- a run: 19 is `11` and d = 4
 pub op-run : (w c s n : ℕ) (l m t : List Bool) → pull 5 l ≡ got 19 m → pull 8 m ≡ got n t → opOf true w c s l ≡ go (runPixels n - 1) c s t

@@ -15,7 +15,8 @@ use Rattle.strip.specs.declared.Answer.the-variants.{Drawn, Refused}
 use Rattle.strip.specs.declared.Kind.{Kind}
 use Rattle.bits.specs.Bits.{bitsOf}
 use Rattle.strip.specs.Strip.{decode}
-use Rattle.strip.specs.Picture.{notBelow, fiveFrom, sourceOf, upTo, over, Width, placed, Picture, unless, refusal, picture, rawOf, codedOf, shown, stripOf, byKind, kindOf, Answered}
+use Rattle.strip.specs.Picture.{notBelow, fiveFrom, sourceOf, upTo, over, Width, placed, Picture, unless, refusal, picture, rawOf, codedOf, shown}
+use Rattle.strip.specs.Picture.{stripOf, byKind, kindOf, Answered}
 
 pub five-from : (low code : ℕ) → fiveFrom low code ≡ true → (low ≤ code) × (code ≤ low + 4)
 unfolding fiveFrom
@@ -70,7 +71,8 @@ upTo-store f out j v h e g =
 pub over-of : (xs out d : List ℕ) (n : ℕ) → length xs ≡ n → take n out ≡ xs → drop n out ≡ drop n d → out ≡ over xs d
 unfolding over
 over-of xs out d n len front back =
-    sym (ap (λ (k : ℕ). xs ++ drop k d) len ∙ ap (λ (t : List ℕ). xs ++ t) (sym back) ∙ ap (λ (t : List ℕ). t ++ drop n out) (sym front) ∙ take-append-drop n out)
+    sym (ap (λ (k : ℕ). xs ++ drop k d) len ∙ ap (λ (t : List ℕ). xs ++ t) (sym back) ∙ ap (λ (t : List ℕ). t ++ drop n out) (sym front) ∙ take-append-drop n
+    out)
 
 -- the pixel that stands at j, counted by rows
 abbrev pub pixelAt : Bool → ℕ → List ℕ → ℕ → ℕ

@@ -23,7 +23,8 @@ module _ (second : Bool) (w total : ℕ) (s : List ℕ) (st : State) where
   abbrev next : Move
   next = opOf second w (st .colour) (st .step) (rest s (st .cur))
 
-  pub gives-op : (to : State) (n : ℕ) → next ≡ go n (to .colour) (to .step) (rest s (to .cur)) → to .i ≡ st .i + 1 + n → to .i ≤ total → Gives second w total s st to
+  pub gives-op : (to : State) (n : ℕ) → next ≡ go n (to .colour) (to .step) (rest s (to .cur)) → to .i ≡ st .i + 1 + n → to .i ≤ total → Gives second w total s
+      st to
   gives-op to n e ei le =
       let a : total - st .i ≡ suc (n + (total - to .i)) = omega arith in
       let b : suc n ≡ to .i - st .i = omega arith in
@@ -71,7 +72,8 @@ gives-kept second w total s st k next zeros le =
 
 -- ---- one operation that isn't a run
 
-pub none-stepped : (second : Bool) (w total : ℕ) (s : List ℕ) (st : State) → st .i < total → Full s (st .cur) → st .cur .bits < 1 → ahead second w total s st ≡ refused 7
+pub none-stepped : (second : Bool) (w total : ℕ) (s : List ℕ) (st : State) → st .i < total → Full s (st .cur) → st .cur .bits < 1 → ahead second w total s st ≡
+    refused 7
 none-stepped second w total s st left full h =
     refuses second w total s st 7 left
     (op-none second w (st .colour) (st .step) (rest s (st .cur)) (rw (all-held s (st .cur) full (omega arith)) h))
@@ -80,7 +82,8 @@ module _ (second : Bool) (w total : ℕ) (s : List ℕ) (st : State) (left : st 
   pub keep-stepped : (to : Cursor) → Hands 1 0 (st .cur) to → Stepped second w total s st (Go (keptBy 1 to st))
   keep-stepped to none = (omega arith, omega arith, none .held s held, gives-kept second w total s st 1 to none (omega arith))
 
-  pub op-stepped : (to : State) → Leads second w st to → One (rest s (st .cur)) → runAhead second (rest s (st .cur)) ≡ false → Stepped second w total s st (Go to)
+  pub op-stepped : (to : State) → Leads second w st to → One (rest s (st .cur)) → runAhead second (rest s (st .cur)) ≡ false → Stepped second w total s st
+      (Go to)
   op-stepped to o one no-run =
       let on = o .on in
       (omega arith, omega arith, o .held s held, gives-op second w total s st to 0 (o .leads s one no-run) (omega arith) (omega arith))
@@ -128,7 +131,8 @@ module _ (w total : ℕ) (s : List ℕ) (st : State) (left : st .i < total) (is-
     pub run-past-stepped : total < st .i + n → ahead true w total s st ≡ refused 8
     run-past-stepped h = runs-past true w total s st (n - 1) (st .colour) (st .step) (rest s two) left runs (omega arith)
 
-    pub run-stepped : Held s (st .cur) → st .i + n ≤ total → Stepped true w total s st (Go (record { i = st .i + n; colour = st .colour; step = st .step; cur = two }))
+    pub run-stepped : Held s (st .cur) → st .i + n ≤ total → Stepped true w total s st
+        (Go (record { i = st .i + n; colour = st .colour; step = st .step; cur = two }))
     run-stepped held h =
         let to : State = record { i = st .i + n; colour = st .colour; step = st .step; cur = two } in
         (omega arith, h, eight .held s (five .held s held), gives-op true w total s st to (n - 1) runs (omega arith) (omega arith))

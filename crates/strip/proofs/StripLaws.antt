@@ -61,7 +61,8 @@ module _ (second : Bool) (w : ℕ) where
   decode-pending zero k c s l = let e : 0 + k ≡ k = omega arith in ap (λ (j : ℕ). decode second w j 0 c s l) e ∙ prepend-none (decode second w k 0 c s l)
   decode-pending (suc n) k c s l =
       let e : suc n + k ≡ suc (n + k) = omega arith in
-      decode-go second w (suc n + k) (n + k) (suc n) c s l e n c s l refl ∙ ap (onto c) (decode-pending n k c s l) ∙ onto-prepend c (replicate n c) (decode second w k 0 c s l)
+      decode-go second w (suc n + k) (n + k) (suc n) c s l e n c s l refl ∙ ap (onto c) (decode-pending n k c s l) ∙ onto-prepend c (replicate n c)
+      (decode second w k 0 c s l)
 
   module _ (c s : ℕ) (l : List Bool) where
     pub decode-op : (n k c′ s′ : ℕ) (l′ : List Bool) → opOf second w c s l ≡ go n c′ s′ l′

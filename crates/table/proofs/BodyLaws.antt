@@ -42,7 +42,8 @@ module _ (mask : Bool) (s : List ℕ) (b z : ℕ) where
         go (bodiless mask (offsetAt mask s b k)) refl h (λ g. ends-between m (k + 1) before lt g)
       where
         go : (q : Bool) → bodiless mask (offsetAt mask s b k) ≡ q
-            → cond q (offsetsRight mask s b low size (k + 1) m before) (offsetRight low size before (offsetAt mask s b k) && offsetsRight mask s b low size (k + 1) m (offsetAt mask s b k)) ≡ true
+            → cond q (offsetsRight mask s b low size (k + 1) m before) (offsetRight low size before (offsetAt mask s b k) && offsetsRight mask s b low size
+            (k + 1) m (offsetAt mask s b k)) ≡ true
             → (offsetsRight mask s b low size (k + 1) m before ≡ true → Between before (bodyEnd mask s b z (k + 1) m))
             → Between before (cond (eqb (offsetAt mask s b k) 0) (bodyEnd mask s b z (k + 1) m) (b + offsetAt mask s b k))
         go true eq h ih = rw (and-right mask (eqb (offsetAt mask s b k) 0) eq) (ih h)
@@ -51,14 +52,16 @@ module _ (mask : Bool) (s : List ℕ) (b z : ℕ) where
             rw (ne-eqb (offsetAt mask s b k) 0 (λ e. omega arith)) (omega arith)
 
 -- the body of a strip that has one lies in its block
-module _ (mask : Bool) (n : ℕ) (s : List ℕ) (b z k : ℕ) (right : tableRight mask n s b z ≡ true) (in-table : k < n) (some : bodiless mask (offsetAt mask s b k) ≡ false) where
+module _ (mask : Bool) (n : ℕ) (s : List ℕ) (b z k : ℕ) (right : tableRight mask n s b z ≡ true) (in-table : k < n)
+    (some : bodiless mask (offsetAt mask s b k) ≡ false) where
   pub body-in : (b + offsetAt mask s b k ≤ bodyEnd mask s b z (k + 1) (n - (k + 1))) × (bodyEnd mask s b z (k + 1) (n - (k + 1)) ≤ z)
   body-in =
       let at = table-at mask n s b z right k in-table some in
       ends-between mask s b z (tableEnd mask n) (z - b) (omega arith) (n - (k + 1)) (k + 1) (offsetAt mask s b k) (at .0) (at .1)
 
 -- the table's cells lie in the room
-pub cell-room : (mask : Bool) (n : ℕ) (s : List ℕ) (b z k : ℕ) → tableRight mask n s b z ≡ true → k < n → b ≤ z → z ≤ length s → b + 8 + offsetSize mask * (k + 1) ≤ length s
+pub cell-room : (mask : Bool) (n : ℕ) (s : List ℕ) (b z k : ℕ) → tableRight mask n s b z ≡ true → k < n → b ≤ z → z ≤ length s → b + 8 + offsetSize mask *
+    (k + 1) ≤ length s
 cell-room mask n s b z k right lt le end =
     let next : k + 1 ≤ n = omega arith in
     omega (arith, table-room mask n s b z right, mul-le-mul-left (offsetSize mask) next)

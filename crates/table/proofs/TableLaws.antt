@@ -55,7 +55,8 @@ module _ (mask : Bool) (s : List ℕ) (b low size : ℕ) where
         (λ e. later (bodiless mask (offsetAt mask s b k)) h (λ from g. offsets-at m (k + 1) from g (omega arith) (omega arith)))
       where
         here : (q : Bool) → bodiless mask (offsetAt mask s b k) ≡ q → k ≡ t
-            → cond q (offsetsRight mask s b low size (k + 1) m before) (offsetRight low size before (offsetAt mask s b k) && offsetsRight mask s b low size (k + 1) m (offsetAt mask s b k)) ≡ true
+            → cond q (offsetsRight mask s b low size (k + 1) m before) (offsetRight low size before (offsetAt mask s b k) && offsetsRight mask s b low size
+            (k + 1) m (offsetAt mask s b k)) ≡ true
             → After (k + suc m)
         here true eq e h = absurd (true≢false (sym eq ∙ ap (λ (i : ℕ). bodiless mask (offsetAt mask s b i)) e ∙ some))
         here false eq e h =
@@ -65,14 +66,16 @@ module _ (mask : Bool) (s : List ℕ) (b low size : ℕ) where
             (rw e at (right .1), rw (e, left) at next)
 
         later : (q : Bool)
-            → cond q (offsetsRight mask s b low size (k + 1) m before) (offsetRight low size before (offsetAt mask s b k) && offsetsRight mask s b low size (k + 1) m (offsetAt mask s b k)) ≡ true
+            → cond q (offsetsRight mask s b low size (k + 1) m before) (offsetRight low size before (offsetAt mask s b k) && offsetsRight mask s b low size
+            (k + 1) m (offsetAt mask s b k)) ≡ true
             → ((from : ℕ) → offsetsRight mask s b low size (k + 1) m from ≡ true → After (k + 1 + m)) → After (k + suc m)
         later q h ih =
             let same : k + 1 + m ≡ k + suc m = omega arith in
             rw same at (go q h)
           where
             go : (q : Bool)
-                → cond q (offsetsRight mask s b low size (k + 1) m before) (offsetRight low size before (offsetAt mask s b k) && offsetsRight mask s b low size (k + 1) m (offsetAt mask s b k)) ≡ true
+                → cond q (offsetsRight mask s b low size (k + 1) m before)
+                (offsetRight low size before (offsetAt mask s b k) && offsetsRight mask s b low size (k + 1) m (offsetAt mask s b k)) ≡ true
                 → After (k + 1 + m)
             go true h = ih before h
             go false h = ih (offsetAt mask s b k) (and-right (offsetRight low size before (offsetAt mask s b k)) _ h)

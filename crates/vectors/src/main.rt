@@ -2,7 +2,7 @@
 // strip of source 000, and each code of "Strips of pixels". The file stdout holds what they must be.
 ghost use Prim.Native.Nat.{_≤_, _*_};
 ghost use lib.ListN.{length};
-use blocks::Wrote;
+use block_writer::Wrote;
 use strip::Answer;
 use strip::Made;
 
@@ -76,7 +76,7 @@ fn rewritten(h: usize, body: &[u8])
     let mut read = [0u8; 200];
     plane::mask_rows(body, h, &mut read);
     let mut block = [0u8; 512];
-    match blocks::write_plane(&read, &mut block, 8, h as u32, 1) {
+    match block_writer::write_plane(&read, &mut block, 8, h as u32, 1) {
         Wrote::Block(size) => {
             if size <= 512 {
                 bytes(&block[..size]);

@@ -8,7 +8,8 @@ use lib.ListN.{length, replicate, getD, set, take, length-set, getD-replicate, L
 use native.Mathlib.Omega.{arith}
 use Rattle.number.proofs.BoolLaws.{and-left, and-right}
 use Rattle.bits.specs.Bits.{Pull, short, got, pull, bitsOf}
-use Rattle.strip.specs.Strip.{Move, refuse, go, choose, indexOp, walkOp, runOp, changeOp, opOf, measured, moveOf, Strip, refused, pixels, onto, prepend, decode, minus, plus}
+use Rattle.strip.specs.Strip.{Move, refuse, go, choose, indexOp, walkOp, runOp, changeOp, opOf, measured, moveOf, Strip, refused, pixels, onto, prepend, decode}
+use Rattle.strip.specs.Strip.{minus, plus}
 use Rattle.strip.specs.Picture.{Picture, refusal, picture, unless, rawOf, shown, codedOf, byKind, stripOf, kindOf, placed}
 use Rattle.strip.specs.declared.Kind.{Kind}
 use Rattle.strip.specs.declared.Kind.the-variants.{Raw, Coded, Unknown}
@@ -238,13 +239,15 @@ low-state planes n h s Missing = omega arith
 pub low-fault : (planes : ℕ) (s : List ℕ) (o st : ℕ) → number (imageFault planes s o st) ≤ 8
 unfolding imageFault
 low-fault planes s o st =
-    low-number (stateTest planes (imageWidth s o / 8) (imageHeight s o) s (stateBlock s o st)) (low-state planes (imageWidth s o / 8) (imageHeight s o) s (stateBlock s o st))
+    low-number (stateTest planes (imageWidth s o / 8) (imageHeight s o) s (stateBlock s o st))
+    (low-state planes (imageWidth s o / 8) (imageHeight s o) s (stateBlock s o st))
 
 -- no refusal is numbered 0
 pub fault-passed : (planes : ℕ) (s : List ℕ) (o st : ℕ) → number (imageFault planes s o st) ≡ 0 → imageFault planes s o st ≡ Passed
 unfolding imageFault
 fault-passed planes s o st e =
-    passed-of (stateTest planes (imageWidth s o / 8) (imageHeight s o) s (stateBlock s o st)) (low-state planes (imageWidth s o / 8) (imageHeight s o) s (stateBlock s o st)) e
+    passed-of (stateTest planes (imageWidth s o / 8) (imageHeight s o) s (stateBlock s o st))
+    (low-state planes (imageWidth s o / 8) (imageHeight s o) s (stateBlock s o st)) e
 
 -- ---- a verdict is right
 

@@ -28,4 +28,6 @@ returns-2 c =
     rw (← stamp-number .ensures, if1 .left) (refl, rw (ex, ey) at (c .before .before .stamp-picture .ensures))
 
 pub stamp-spec : {M : Type 1} → statement M
-stamp-spec = tie.close (tie.spec (λ c κs. search needs) returns stamp-picture-requires (λ c. search needs) returns-2)
+stamp-spec =
+    tie.close (
+    tie.spec (λ c κs. search needs) returns stamp-picture-requires (λ c. search needs) returns-2)

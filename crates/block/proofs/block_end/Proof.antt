@@ -20,6 +20,6 @@ returns-5 c = end-at _ _ _ _ (c .before .before .read-be32 .ensures) (search nee
 
 pub block-end-spec : {M : Type 1} → statement M
 block-end-spec =
-    tie.close
-    (tie.spec returns returns-2 (λ c. search needs) (λ c κs. search needs) returns-3 (λ c. search needs) returns-4 (λ c. search needs)
+    tie.close (
+    tie.spec returns returns-2 (λ c. search needs) (λ c κs. search needs) returns-3 (λ c. search needs) returns-4 (λ c. search needs)
     returns-5)

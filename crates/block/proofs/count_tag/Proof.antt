@@ -36,8 +36,9 @@ loop-less c =
 
 loop-again : tie.Need-loop-again Inv-loop μ-loop
 loop-again c =
-    let i = end-of _ _ _ _ (c .before .before .before .block-end .ensures) (c .before .before .if1 .left) in
-    let one = ap length (tagged-here _ _ _ _ _ (c .before .before .before .block-end .ensures) (c .before .before .if1 .left) _ (c .before .read-be32 .ensures) (c .if2 .taken)) in
+    let if1 = c .before .before .if1 in let block-end = c .before .before .before .block-end in
+    let i = end-of _ _ _ _ (block-end .ensures) (if1 .left) in
+    let one = ap length (tagged-here _ _ _ _ _ (block-end .ensures) (if1 .left) _ (c .before .read-be32 .ensures) (c .if2 .taken)) in
     omega arith
 
 loop-less-2 : tie.Need-loop-less-2 Inv-loop μ-loop
@@ -47,12 +48,13 @@ loop-less-2 c =
 
 loop-again-2 : tie.Need-loop-again-2 Inv-loop μ-loop
 loop-again-2 c =
-    let i = end-of _ _ _ _ (c .before .before .before .block-end .ensures) (c .before .before .if1 .left) in
-    let same = ap length (tagged-on _ _ _ _ _ (c .before .before .before .block-end .ensures) (c .before .before .if1 .left) _ (c .before .read-be32 .ensures) (c .if2 .left)) in
+    let if1 = c .before .before .if1 in let block-end = c .before .before .before .block-end in
+    let i = end-of _ _ _ _ (block-end .ensures) (if1 .left) in
+    let same = ap length (tagged-on _ _ _ _ _ (block-end .ensures) (if1 .left) _ (c .before .read-be32 .ensures) (c .if2 .left)) in
     omega arith
 
 pub count-tag-spec : {M : Type 1} → statement M
 count-tag-spec =
-    tie.close
-    (tie.spec Inv-loop μ-loop (λ c. search needs) (λ c κs. search needs) returns read-be32-requires add-n loop-less loop-again loop-less-2
+    tie.close (
+    tie.spec Inv-loop μ-loop (λ c. search needs) (λ c κs. search needs) returns read-be32-requires add-n loop-less loop-again loop-less-2
     loop-again-2)

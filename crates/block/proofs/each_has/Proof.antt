@@ -38,13 +38,19 @@ loop-less c =
 
 loop-again : tie.Need-loop-again Inv-loop μ-loop
 loop-again c =
-    each-has _ _ _ _ _ _ _ (c .before .before .before .before .before .block-end .ensures) (c .before .before .before .before .if1 .left) _ (c .before .before .before .read-be32 .ensures) (c .before .before .if2 .taken) _ (c .before .has-tag .ensures) (c .if3 .taken)
-    ∙ c .before .before .before .before .before .before .loop .inv
+    let if2 = c .before .before .if2 in let read-be32 = c .before .before .before .read-be32 in
+    let at-if1 = c .before .before .before .before in let if1 = at-if1 .if1 in let block-end = at-if1 .before .block-end in
+    let loop = at-if1 .before .before .loop in
+    each-has _ _ _ _ _ _ _ (block-end .ensures) (if1 .left) _ (read-be32 .ensures) (if2 .taken) _ (c .before .has-tag .ensures) (c .if3 .taken)
+    ∙ loop .inv
 
 returns-2 : tie.Need-returns-2 Inv-loop μ-loop
 returns-2 c =
-    each-not _ _ _ _ _ _ _ (c .before .before .before .before .before .block-end .ensures) (c .before .before .before .before .if1 .left) _ (c .before .before .before .read-be32 .ensures) (c .before .before .if2 .taken) _ (c .before .has-tag .ensures) (c .if3 .left)
-    ∙ c .before .before .before .before .before .before .loop .inv
+    let if2 = c .before .before .if2 in let read-be32 = c .before .before .before .read-be32 in
+    let at-if1 = c .before .before .before .before in let if1 = at-if1 .if1 in let block-end = at-if1 .before .block-end in
+    let loop = at-if1 .before .before .loop in
+    each-not _ _ _ _ _ _ _ (block-end .ensures) (if1 .left) _ (read-be32 .ensures) (if2 .taken) _ (c .before .has-tag .ensures) (c .if3 .left)
+    ∙ loop .inv
 
 loop-less-2 : tie.Need-loop-less-2 Inv-loop μ-loop
 loop-less-2 c =
@@ -58,6 +64,6 @@ loop-again-2 c =
 
 pub each-has-spec : {M : Type 1} → statement M
 each-has-spec =
-    tie.close
-    (tie.spec Inv-loop μ-loop (λ c. search needs) (λ c κs. search needs) returns read-be32-requires add-has-tag has-tag-requires loop-less
+    tie.close (
+    tie.spec Inv-loop μ-loop (λ c. search needs) (λ c κs. search needs) returns read-be32-requires add-has-tag has-tag-requires loop-less
     loop-again returns-2 loop-less-2 loop-again-2)

@@ -24,8 +24,11 @@ read-be32-requires c κs =
 
 returns-2 : tie.Need-returns-2 Inv-loop μ-loop
 returns-2 c =
-    nth-here _ _ _ _ _ (c .before .before .before .before .block-end .ensures) _ (c .before .before .before .if1 .left) _ (c .before .before .read-be32 .ensures) (c .before .if2 .taken) (c .if3 .taken)
-    ∙ c .before .before .before .before .before .loop .inv
+    let read-be32 = c .before .before .read-be32 in let if1 = c .before .before .before .if1 in
+    let at-block-end = c .before .before .before .before in let block-end = at-block-end .block-end in
+    let loop = at-block-end .before .loop in
+    nth-here _ _ _ _ _ (block-end .ensures) _ (if1 .left) _ (read-be32 .ensures) (c .before .if2 .taken) (c .if3 .taken)
+    ∙ loop .inv
 
 loop-less : tie.Need-loop-less Inv-loop μ-loop
 loop-less c =
@@ -34,8 +37,11 @@ loop-less c =
 
 loop-again : tie.Need-loop-again Inv-loop μ-loop
 loop-again c =
-    nth-down _ _ _ _ _ (c .before .before .before .before .block-end .ensures) _ (c .before .before .before .if1 .left) _ (c .before .before .read-be32 .ensures) (c .before .if2 .taken) (c .if3 .left)
-    ∙ c .before .before .before .before .before .loop .inv
+    let read-be32 = c .before .before .read-be32 in let if1 = c .before .before .before .if1 in
+    let at-block-end = c .before .before .before .before in let block-end = at-block-end .block-end in
+    let loop = at-block-end .before .loop in
+    nth-down _ _ _ _ _ (block-end .ensures) _ (if1 .left) _ (read-be32 .ensures) (c .before .if2 .taken) (c .if3 .left)
+    ∙ loop .inv
 
 loop-less-2 : tie.Need-loop-less-2 Inv-loop μ-loop
 loop-less-2 c =
@@ -49,6 +55,6 @@ loop-again-2 c =
 
 pub nth-tag-spec : {M : Type 1} → statement M
 nth-tag-spec =
-    tie.close
-    (tie.spec Inv-loop μ-loop (λ c. search needs) (λ c κs. search needs) returns read-be32-requires returns-2 (λ c. search needs) loop-less
+    tie.close (
+    tie.spec Inv-loop μ-loop (λ c. search needs) (λ c κs. search needs) returns read-be32-requires returns-2 (λ c. search needs) loop-less
     loop-again loop-less-2 loop-again-2)

@@ -72,6 +72,6 @@ returns-3 c =
 
 pub start-spec : {M : Type 1} → statement M
 start-spec =
-    tie.close (tie.spec
-    (λ c κs. search needs) (λ c. search needs) returns offset-at-requires is-defined-requires (λ c. search needs) returns-2 sub-begin-limbs
-    begin-limbs-requires (λ c. search needs) returns-3)
+    tie.close (
+    tie.spec (λ c κs. search needs) (λ c. search needs) returns offset-at-requires is-defined-requires (λ c. search needs) returns-2
+    sub-begin-limbs begin-limbs-requires (λ c. search needs) returns-3)

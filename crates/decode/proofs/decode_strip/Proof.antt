@@ -11,46 +11,28 @@ use Rattle.decode.proofs.decode_strip.Tie as tie
 returns : tie.Need-returns
 returns c = let a = c .before .before .before .args in answered-no _ _ _ (strip-none (a .h) (now (a .body)) (c .if1 .taken))
 
-shared-slice-read-kind-of : tie.Need-shared-slice-read-kind-of
-shared-slice-read-kind-of c = search needs
-
-kind-of-requires : tie.Need-kind-of-requires
-kind-of-requires c κs = search needs
-
-enum-told : tie.Need-enum-told
-enum-told c = search needs
-
-raw-requires : tie.Need-raw-requires
-raw-requires c κs = search needs
-
-enum-known-second : tie.Need-enum-known-second
-enum-known-second c = search needs
-
 coded-requires : tie.Need-coded-requires
 coded-requires c κs =
     let wd = told-width (c .before .before .second .given .1) (c .before .before .before .before .kind-of .ensures .1) in
     (omega (arith, wd .0), wd .1, search needs, omega arith, search needs)
 
-enum-told-2 : tie.Need-enum-told-2
-enum-told-2 c = search needs
-
-same-length : tie.Need-same-length
-same-length c = search needs
-
 returns-2 : tie.Need-returns-2
 returns-2 c =
-    let a = c .before .before .before .before .before .before .before .before .before .before .before .args in
-    let k = sym (c .before .before .before .before .before .before .kind-of .ensures .0) ∙ c .before .before .before .before .enum-told .given .1 in
-    answered-from (now (a .out)) (c .before .before .raw .last .1 .1 .0) (c .before .before .raw .result) (strip-some (a .h) (now (a .body)) (c .before .before .before .before .before .before .before .before .if1 .left) ∙ ap (byKind (a .h) (drop 1 (now (a .body)))) k) (c .before .before .raw .ensures)
-
-same-length-2 : tie.Need-same-length-2
-same-length-2 c = search needs
+    let raw = c .before .before .raw in let at-enum-told = c .before .before .before .before in let enum-told = at-enum-told .enum-told in
+    let kind-of = at-enum-told .before .before .kind-of in let at-if1 = at-enum-told .before .before .before .before in
+    let if1 = at-if1 .if1 in let a = at-if1 .before .before .before .args in
+    let k = sym (kind-of .ensures .0) ∙ enum-told .given .1 in
+    answered-from (now (a .out)) (raw .last .1 .1 .0) (raw .result) (strip-some (a .h) (now (a .body)) (if1 .left) ∙ ap (byKind (a .h) (drop 1 (now (a .body))))
+    k) (raw .ensures)
 
 returns-3 : tie.Need-returns-3
 returns-3 c =
-    let a = c .before .before .before .before .before .before .before .before .before .before .before .before .args in
-    let k = sym (c .before .before .before .before .before .before .before .kind-of .ensures .0) ∙ c .before .before .before .before .before .second .given .1 in
-    answered-from (now (a .out)) (c .before .before .coded .last .1 .1 .1 .1 .1 .1 .0) (c .before .before .coded .result) (strip-some (a .h) (now (a .body)) (c .before .before .before .before .before .before .before .before .before .if1 .left) ∙ ap (byKind (a .h) (drop 1 (now (a .body)))) k) (c .before .before .coded .ensures)
+    let coded = c .before .before .coded in let at-second = c .before .before .before .before .before in let second = at-second .second in
+    let kind-of = at-second .before .before .kind-of in let at-if1 = at-second .before .before .before .before in let if1 = at-if1 .if1 in
+    let a = at-if1 .before .before .before .args in
+    let k = sym (kind-of .ensures .0) ∙ second .given .1 in
+    answered-from (now (a .out)) (coded .last .1 .1 .1 .1 .1 .1 .0) (coded .result)
+    (strip-some (a .h) (now (a .body)) (if1 .left) ∙ ap (byKind (a .h) (drop 1 (now (a .body)))) k) (coded .ensures)
 
 returns-4 : tie.Need-returns-4
 returns-4 c =
@@ -60,18 +42,6 @@ returns-4 c =
 
 pub decode-strip-spec : {M : Type 1} → statement M
 decode-strip-spec =
-    tie.close
-    (tie.spec
-    returns
-    shared-slice-read-kind-of
-    kind-of-requires
-    enum-told
-    raw-requires
-    enum-known-second
-    coded-requires
-    enum-told-2
-    same-length
-    returns-2
-    same-length-2
-    returns-3
-    returns-4)
+    tie.close (
+    tie.spec returns (λ c. search needs) (λ c κs. search needs) (λ c. search needs) (λ c κs. search needs) (λ c. search needs)
+    coded-requires (λ c. search needs) (λ c. search needs) returns-2 (λ c. search needs) returns-3 returns-4)

@@ -11,32 +11,11 @@ use Rattle.strip.proofs.PictureLaws.{answered-no, answered-yes, part-one, raw-s
 use Rattle.decode.proofs.raw.Statement.{statement}
 use Rattle.decode.proofs.raw.Tie as tie
 
-sub-if1 : tie.Need-sub-if1
-sub-if1 c = search needs
-
-mul-if1 : tie.Need-mul-if1
-mul-if1 c = search needs
-
 returns : tie.Need-returns
 returns c =
     let a = c .before .before .before .args in
     let t = drop 1 (now (a .body)) in
     answered-no _ _ _ (raw-short (a .h) t (omega (arith, length-drop 1 (now (a .body)), c .if1 .taken)))
-
-sub-place : tie.Need-sub-place
-sub-place c = search needs
-
-part-place-start : tie.Need-part-place-start
-part-place-start c = search needs
-
-part-place-end : tie.Need-part-place-end
-part-place-end c = search needs
-
-place-requires : tie.Need-place-requires
-place-requires c κs = search needs
-
-same-length : tie.Need-same-length
-same-length c = search needs
 
 returns-2 : tie.Need-returns-2
 returns-2 c =
@@ -47,4 +26,7 @@ returns-2 c =
     answered-yes _ _ _ _ _ full (c .before .before .place .ensures ∙ ap (λ (t : List ℕ). over (placed false (a .h) t) (now (a .out))) (part-one body))
 
 pub raw-spec : {M : Type 1} → statement M
-raw-spec = tie.close (tie.spec sub-if1 mul-if1 returns sub-place part-place-start part-place-end place-requires same-length returns-2)
+raw-spec =
+    tie.close (
+    tie.spec (λ c. search needs) (λ c. search needs) returns (λ c. search needs) (λ c. search needs) (λ c. search needs)
+    (λ c κs. search needs) (λ c. search needs) returns-2)

@@ -33,14 +33,8 @@ module _ (c : tie.In-loop Inv-loop2 μ-loop2 Inv-loop μ-loop) where
   cell : (start .args .y0 + c .before .loop .r) * start .args .w + (8 * start .args .s + 7) < length (start .args .pixels .now)
   cell = spot _ _ (start .args .h) _ _ 8 (start .args .rows) _ 7 (start .pre .0) (c .loop-test .taken) (omega arith)
 
-mul-x0 : tie.Need-mul-x0 Inv-loop2 μ-loop2 Inv-loop μ-loop
-mul-x0 c = omega arith
-
 loop-holds : tie.Need-loop-holds Inv-loop2 μ-loop2 Inv-loop μ-loop
 loop-holds c = (box-none _ _ _ _ _ _, omega arith, refl)
-
-add-at : tie.Need-add-at Inv-loop2 μ-loop2 Inv-loop μ-loop
-add-at c = omega arith
 
 mul-at : tie.Need-mul-at Inv-loop2 μ-loop2 Inv-loop μ-loop
 mul-at c = omega (arith, cell c)
@@ -48,38 +42,8 @@ mul-at c = omega (arith, cell c)
 add-at-2 : tie.Need-add-at-2 Inv-loop2 μ-loop2 Inv-loop μ-loop
 add-at-2 c = omega (arith, cell c)
 
-mul-from : tie.Need-mul-from Inv-loop2 μ-loop2 Inv-loop μ-loop
-mul-from c = omega arith
-
 loop2-holds : tie.Need-loop2-holds Inv-loop2 μ-loop2 Inv-loop μ-loop
 loop2-holds c = (row-none _ _ _ _ _, omega arith, refl, omega (arith, cell c), omega arith)
-
-add-pixel-over : tie.Need-add-pixel-over Inv-loop2 μ-loop2 Inv-loop μ-loop
-add-pixel-over c = omega arith
-
-shared-slice-read-pixel-over : tie.Need-shared-slice-read-pixel-over Inv-loop2 μ-loop2 Inv-loop μ-loop
-shared-slice-read-pixel-over c = omega arith
-
-add-pixel-over-2 : tie.Need-add-pixel-over-2 Inv-loop2 μ-loop2 Inv-loop μ-loop
-add-pixel-over-2 c = omega arith
-
-slice-read-pixel-over : tie.Need-slice-read-pixel-over Inv-loop2 μ-loop2 Inv-loop μ-loop
-slice-read-pixel-over c = omega arith
-
-pixel-over-requires : tie.Need-pixel-over-requires Inv-loop2 μ-loop2 Inv-loop μ-loop
-pixel-over-requires c κs = search needs
-
-add-pixels : tie.Need-add-pixels Inv-loop2 μ-loop2 Inv-loop μ-loop
-add-pixels c = omega arith
-
-slice-write-pixels : tie.Need-slice-write-pixels Inv-loop2 μ-loop2 Inv-loop μ-loop
-slice-write-pixels c = omega arith
-
-add-c : tie.Need-add-c Inv-loop2 μ-loop2 Inv-loop μ-loop
-add-c c = omega arith
-
-loop2-less : tie.Need-loop2-less Inv-loop2 μ-loop2 Inv-loop μ-loop
-loop2-less c = omega arith
 
 loop2-again : tie.Need-loop2-again Inv-loop2 μ-loop2 Inv-loop μ-loop
 loop2-again c =
@@ -92,21 +56,12 @@ loop2-again c =
       inv .4,
     )
 
-add-r : tie.Need-add-r Inv-loop2 μ-loop2 Inv-loop μ-loop
-add-r c = omega arith
-
-loop-less : tie.Need-loop-less Inv-loop2 μ-loop2 Inv-loop μ-loop
-loop-less c = omega arith
-
 loop-again : tie.Need-loop-again Inv-loop2 μ-loop2 Inv-loop μ-loop
 loop-again c =
     let inv2 = c .before .loop2 .inv in
     let inv = c .before .before .before .loop .inv in
     let full : c .before .loop2 .c ≡ 8 = omega arith in
     (box-more _ _ _ _ _ _ _ _ _ (inv .0) (rw full at (inv2 .0)), omega arith, inv2 .2 ∙ inv .2)
-
-same-length : tie.Need-same-length Inv-loop2 μ-loop2 Inv-loop μ-loop
-same-length c = omega arith
 
 returns : tie.Need-returns Inv-loop2 μ-loop2 Inv-loop μ-loop
 returns c =
@@ -115,31 +70,8 @@ returns c =
 
 pub blit-strip-spec : {M : Type 1} → statement M
 blit-strip-spec =
-    tie.close
-    (tie.spec
-    Inv-loop2
-    μ-loop2
-    Inv-loop
-    μ-loop
-    mul-x0
-    loop-holds
-    add-at
-    mul-at
-    add-at-2
-    mul-from
-    loop2-holds
-    add-pixel-over
-    shared-slice-read-pixel-over
-    add-pixel-over-2
-    slice-read-pixel-over
-    pixel-over-requires
-    add-pixels
-    slice-write-pixels
-    add-c
-    loop2-less
-    loop2-again
-    add-r
-    loop-less
-    loop-again
-    same-length
+    tie.close (
+    tie.spec Inv-loop2 μ-loop2 Inv-loop μ-loop (λ c. omega arith) loop-holds (λ c. omega arith) mul-at add-at-2 (λ c. omega arith)
+    loop2-holds (λ c. omega arith) (λ c. omega arith) (λ c. omega arith) (λ c. omega arith) (λ c κs. search needs) (λ c. omega arith)
+    (λ c. omega arith) (λ c. omega arith) (λ c. omega arith) loop2-again (λ c. omega arith) (λ c. omega arith) loop-again (λ c. omega arith)
     returns)

@@ -10,8 +10,5 @@ returns c = rw (c .before .if1 .taken, eq-eqb _ _ (c .if2 .taken))
 returns-2 : tie.Need-returns-2
 returns-2 c = rw (c .before .if1 .taken, ne-eqb _ _ (c .if2 .left))
 
-returns-3 : tie.Need-returns-3
-returns-3 c = search needs
-
 pub pixel-over-spec : {M : Type 1} → statement M
-pixel-over-spec = tie.close (tie.spec returns returns-2 returns-3)
+pixel-over-spec = tie.close (tie.spec returns returns-2 (λ c. search needs))

@@ -19,9 +19,6 @@ Inv-loop masks₀ width h planes k s y0 rows n replace top r₀ masks r =
 abbrev μ-loop : tie.MeasureT-loop
 μ-loop masks₀ width h planes k s y0 rows n replace top r₀ masks r = n - r
 
-sub-top : tie.Need-sub-top Inv-loop μ-loop
-sub-top c = omega arith
-
 mul-top : tie.Need-mul-top Inv-loop μ-loop
 mul-top c = omega (arith, plane-inside _ _ _ _ _ _ _ _ (c .before .before .pre .0))
 
@@ -31,43 +28,25 @@ add-top c = omega (arith, plane-inside _ _ _ _ _ _ _ _ (c .before .before .pre .
 loop-holds : tie.Need-loop-holds Inv-loop μ-loop
 loop-holds c = (box-none _ _ _ _ _ _, omega arith, refl, plane-inside _ _ _ _ _ _ _ _ (c .before .before .pre .0))
 
-add-at : tie.Need-add-at Inv-loop μ-loop
-add-at c = omega arith
-
 mul-at : tie.Need-mul-at Inv-loop μ-loop
 mul-at c = omega (arith, spot _ _ _ _ _ _ _ _ 0 (c .before .loop .inv .3) (c .loop-test .taken) (omega arith))
 
 add-at-2 : tie.Need-add-at-2 Inv-loop μ-loop
 add-at-2 c = omega (arith, spot _ _ _ _ _ _ _ _ 0 (c .before .loop .inv .3) (c .loop-test .taken) (omega arith))
 
-shared-slice-read-mask-over : tie.Need-shared-slice-read-mask-over Inv-loop μ-loop
-shared-slice-read-mask-over c = omega arith
-
 slice-read-mask-over : tie.Need-slice-read-mask-over Inv-loop μ-loop
 slice-read-mask-over c =
     omega (arith, spot _ _ _ _ _ _ _ _ 0 (c .before .before .before .loop .inv .3) (c .before .before .loop-test .taken) (omega arith))
-
-mask-over-requires : tie.Need-mask-over-requires Inv-loop μ-loop
-mask-over-requires c κs = search needs
 
 slice-write-masks : tie.Need-slice-write-masks Inv-loop μ-loop
 slice-write-masks c =
     let turn = c .before .before .before in
     omega (arith, spot _ _ _ _ _ _ _ _ 0 (turn .before .loop .inv .3) (turn .loop-test .taken) (omega arith))
 
-add-r : tie.Need-add-r Inv-loop μ-loop
-add-r c = omega arith
-
-loop-less : tie.Need-loop-less Inv-loop μ-loop
-loop-less c = omega arith
-
 loop-again : tie.Need-loop-again Inv-loop μ-loop
 loop-again c =
     let inv = c .before .before .before .before .loop .inv in
     (column-write _ _ _ _ _ _ _ (omega arith) (inv .0) _ _ refl (c .mask-over .ensures), omega arith, simp length-set (inv .2), inv .3)
-
-same-length : tie.Need-same-length Inv-loop μ-loop
-same-length c = omega arith
 
 returns : tie.Need-returns Inv-loop μ-loop
 returns c =
@@ -76,23 +55,7 @@ returns c =
 
 pub put-rows-spec : {M : Type 1} → statement M
 put-rows-spec =
-    tie.close
-    (tie.spec
-    Inv-loop
-    μ-loop
-    sub-top
-    mul-top
-    add-top
-    loop-holds
-    add-at
-    mul-at
-    add-at-2
-    shared-slice-read-mask-over
-    slice-read-mask-over
-    mask-over-requires
-    slice-write-masks
-    add-r
-    loop-less
-    loop-again
-    same-length
+    tie.close (
+    tie.spec Inv-loop μ-loop (λ c. omega arith) mul-top add-top loop-holds (λ c. omega arith) mul-at add-at-2 (λ c. omega arith)
+    slice-read-mask-over (λ c κs. search needs) slice-write-masks (λ c. omega arith) (λ c. omega arith) loop-again (λ c. omega arith)
     returns)

@@ -28,6 +28,6 @@ object-line-requires c κs =
 
 pub object-spec : {M : Type 1} → statement M
 object-spec =
-    tie.close
-    (tie.spec (λ c κs. search needs) (λ c. search needs) read-cdhd-requires object-line-requires (λ c. search needs) (λ c. search needs)
+    tie.close (
+    tie.spec (λ c κs. search needs) (λ c. search needs) read-cdhd-requires object-line-requires (λ c. search needs) (λ c. search needs)
     (λ c. search needs))

@@ -12,9 +12,6 @@ Inv-loop room end at₀ k₀ at k = (k ≤ at) × (at ≤ end + 8)
 abbrev μ-loop : tie.MeasureT-loop
 μ-loop room end at₀ k₀ at k = end + 8 - at
 
-loop-holds : tie.Need-loop-holds Inv-loop μ-loop
-loop-holds c = omega arith
-
 object-requires : tie.Need-object-requires Inv-loop μ-loop
 object-requires c κs =
     let i = nth-at _ _ _ _ _ _ _ (sym (c .before .b .given .1) ∙ c .before .before .before .find-tag .ensures) in
@@ -37,6 +34,6 @@ loop-again c =
 
 pub objects-spec : {M : Type 1} → statement M
 objects-spec =
-    tie.close
-    (tie.spec Inv-loop μ-loop loop-holds (λ c κs. search needs) (λ c. search needs) object-requires add-k loop-less loop-again
+    tie.close (
+    tie.spec Inv-loop μ-loop (λ c. omega arith) (λ c κs. search needs) (λ c. search needs) object-requires add-k loop-less loop-again
     (λ c. search needs) (λ c. search needs))

@@ -5,15 +5,6 @@ use borrow.Author.Needs.{needs}
 use Rattle.load.proofs.load.Statement.{statement}
 use Rattle.load.proofs.load.Tie as tie
 
-surfaces-lent-requires : tie.Need-surfaces-lent-requires
-surfaces-lent-requires c κs = search needs
-
-test-room-requires : tie.Need-test-room-requires
-test-room-requires c κs = search needs
-
-enum-known-r : tie.Need-enum-known-r
-enum-known-r c = search needs
-
 empty-session-requires : tie.Need-empty-session-requires
 empty-session-requires c κs =
     let a = c .before .before .before .before .before .before .before .before .before .before .args in
@@ -23,10 +14,12 @@ empty-session-requires c κs =
 
 load-pixels-requires : tie.Need-load-pixels-requires
 load-pixels-requires c κs =
-    let a = c .before .before .before .before .before .before .before .before .before .before .before .before .before .before .args in
-    let lent = c .before .before .before .before .before .before .before .before .before .surfaces-lent .ensures in
-    let test = c .before .before .before .before .before .before .before .before .test-room .ensures in
-    let is = c .before .before .before .before .before .before .r .given .1 in
+    let at-r = c .before .before .before .before .before .before in let r = at-r .r in let test-room = at-r .before .before .test-room in
+    let surfaces-lent = at-r .before .before .before .surfaces-lent in
+    let a = at-r .before .before .before .before .before .before .before .before .args in
+    let lent = surfaces-lent .ensures in
+    let test = test-room .ensures in
+    let is = r .given .1 in
     let room = accepted (now (a .room)) (now (a .session)) (now (a .pixels)) (now (a .masks)) _ _ lent test _ is in
     (room .sound, (room .pictures, room .pixels-long))
 
@@ -40,32 +33,19 @@ load-masks-requires c κs =
     let room = accepted (now (a .room)) (now (a .session)) (now (a .pixels)) (now (a .masks)) _ _ lent test _ is in
     (room .sound, (room .pictures, room .masks-long))
 
-enum-known-number : tie.Need-enum-known-number
-enum-known-number c = search needs
-
-cast-result : tie.Need-cast-result
-cast-result c = search needs
-
-same-length : tie.Need-same-length
-same-length c = search needs
-
-same-length-2 : tie.Need-same-length-2
-same-length-2 c = search needs
-
-same-length-3 : tie.Need-same-length-3
-same-length-3 c = search needs
-
 returns : tie.Need-returns
 returns c =
+    let load-masks = c .before .before .load-masks in let at-load-pixels = c .before .before .before .before .before .before in
+    let load-pixels = at-load-pixels .load-pixels in let empty-session = at-load-pixels .before .before .before .before .empty-session in
     let tested = c .before .before .before .before .before .before .before .before .before .before .before .before .before in
     let a = tested .before .before .before .before .before .before .before .before .args in
     let lent = tested .before .before .before .surfaces-lent .ensures in
     let test = tested .before .before .test-room .ensures in
     let is = tested .r .given .1 in
     let right = answered (now (a .room)) (now (a .session)) (now (a .pixels)) (now (a .masks)) _ _ lent test _ is in
-    let emptied = c .before .before .before .before .before .before .before .before .before .before .empty-session .ensures in
-    let painted = c .before .before .before .before .before .before .load-pixels .ensures in
-    (rw (← right), (rw (← right) emptied, (rw (← right) painted, rw (← right) (c .before .before .load-masks .ensures))))
+    let emptied = empty-session .ensures in
+    let painted = load-pixels .ensures in
+    (rw (← right), (rw (← right) emptied, (rw (← right) painted, rw (← right) (load-masks .ensures))))
 
 returns-2 : tie.Need-returns-2
 returns-2 c =
@@ -77,18 +57,7 @@ returns-2 c =
 
 pub load-spec : {M : Type 1} → statement M
 load-spec =
-    tie.close
-    (tie.spec
-    surfaces-lent-requires
-    test-room-requires
-    enum-known-r
-    empty-session-requires
-    load-pixels-requires
-    load-masks-requires
-    enum-known-number
-    cast-result
-    same-length
-    same-length-2
-    same-length-3
-    returns
+    tie.close (
+    tie.spec (λ c κs. search needs) (λ c κs. search needs) (λ c. search needs) empty-session-requires load-pixels-requires
+    load-masks-requires (λ c. search needs) (λ c. search needs) (λ c. search needs) (λ c. search needs) (λ c. search needs) returns
     returns-2)

@@ -33,12 +33,6 @@ load-plane-requires c κs =
     let room : strips r * (r .planes * r .height) ≤ length (c .before .before .loop .masks) = omega (arith, start .pre .1 .1, inv .2) in
     ((start .pre .0, inv .0, more), (plane-passes _ _ (start .pre .1 .0) _ (inv .0) more, room))
 
-add-k : tie.Need-add-k Inv-loop μ-loop
-add-k c = omega arith
-
-loop-less : tie.Need-loop-less Inv-loop μ-loop
-loop-less c = omega arith
-
 loop-again : tie.Need-loop-again Inv-loop μ-loop
 loop-again c =
     let inv = c .before .before .before .before .before .loop .inv in
@@ -56,14 +50,5 @@ returns c =
 
 pub load-masks-spec : {M : Type 1} → statement M
 load-masks-spec =
-    tie.close
-    (tie.spec
-    Inv-loop
-    μ-loop
-    loop-holds
-    load-plane-requires
-    add-k
-    loop-less
-    loop-again
-    same-length
-    returns)
+    tie.close (
+    tie.spec Inv-loop μ-loop loop-holds load-plane-requires (λ c. omega arith) (λ c. omega arith) loop-again same-length returns)

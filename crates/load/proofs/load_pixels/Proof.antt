@@ -17,9 +17,6 @@ paint-background-requires c κs =
       (background-passes _ _ (start .pre .1 .0), rw whole (start .pre .1 .1)),
     )
 
-same-length : tie.Need-same-length
-same-length c = search needs
-
 returns : tie.Need-returns
 unfolding loadedPixels background
 returns c =
@@ -29,4 +26,4 @@ returns c =
     rw whole at (c .before .before .paint-background .ensures)
 
 pub load-pixels-spec : {M : Type 1} → statement M
-load-pixels-spec = tie.close (tie.spec paint-background-requires same-length returns)
+load-pixels-spec = tie.close (tie.spec paint-background-requires (λ c. search needs) returns)

@@ -8,12 +8,6 @@ use borrow.Author.Needs.{needs}
 use Rattle.load.proofs.load_plane.Statement.{statement}
 use Rattle.load.proofs.load_plane.Tie as tie
 
-plane-in-requires : tie.Need-plane-in-requires
-plane-in-requires c κs = search needs
-
-enum-known-b : tie.Need-enum-known-b
-enum-known-b c = search needs
-
 paint-plane-requires : tie.Need-paint-plane-requires
 paint-plane-requires c κs =
     let start = c .before .before .before .before .before .before .before .before in
@@ -24,26 +18,17 @@ paint-plane-requires c κs =
       (found-passes _ _ _ _ _ _ _ _ at (start .pre .1 .0), (sound .few, start .pre .0 .1, start .pre .0 .2, start .pre .1 .1)),
     )
 
-enum-told : tie.Need-enum-told
-enum-told c = search needs
-
 clear-plane-requires : tie.Need-clear-plane-requires
 clear-plane-requires c κs =
     let start = c .before .before .before .before .before .before .before in
     let sound = start .pre .0 .0 in
     (omega arith, sound .highest, sound .few, start .pre .0 .1, start .pre .0 .2, start .pre .1 .1)
 
-same-length : tie.Need-same-length
-same-length c = search needs
-
 returns : tie.Need-returns
 unfolding loadedPlane mask
 returns c =
     let at = sym (c .before .before .before .before .before .b .given .1) ∙ c .before .before .before .before .before .before .before .plane-in .ensures in
     rw (← at) (c .before .before .paint-plane .ensures)
-
-same-length-2 : tie.Need-same-length-2
-same-length-2 c = search needs
 
 returns-2 : tie.Need-returns-2
 unfolding loadedPlane mask
@@ -53,14 +38,6 @@ returns-2 c =
 
 pub load-plane-spec : {M : Type 1} → statement M
 load-plane-spec =
-    tie.close
-    (tie.spec
-    plane-in-requires
-    enum-known-b
-    paint-plane-requires
-    enum-told
-    clear-plane-requires
-    same-length
-    returns
-    same-length-2
-    returns-2)
+    tie.close (
+    tie.spec (λ c κs. search needs) (λ c. search needs) paint-plane-requires (λ c. search needs) clear-plane-requires (λ c. search needs)
+    returns (λ c. search needs) returns-2)

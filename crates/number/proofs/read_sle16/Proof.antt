@@ -8,18 +8,6 @@ use borrow.Author.Needs.{needs}
 use Rattle.number.proofs.read_sle16.Statement.{statement}
 use Rattle.number.proofs.read_sle16.Tie as tie
 
-read-le16-requires : tie.Need-read-le16-requires
-read-le16-requires c κs = search needs
-
-cast-result : tie.Need-cast-result
-cast-result c = search needs
-
-sub-result : tie.Need-sub-result
-sub-result c = omega arith
-
-cast-result-2 : tie.Need-cast-result-2
-cast-result-2 c = search needs
-
 sub-result-2 : tie.Need-sub-result-2
 sub-result-2 c = neg-fits (65535 - c .before .read-le16 .result) (omega arith)
 
@@ -31,12 +19,5 @@ returns-2 c = rw (← c .before .read-le16 .ensures .0, le-ltb _ _ (c .if1 .left
 
 pub read-sle16-spec : {M : Type 1} → statement M
 read-sle16-spec =
-    tie.close
-    (tie.spec
-    read-le16-requires
-    cast-result
-    sub-result
-    cast-result-2
-    sub-result-2
-    returns
-    returns-2)
+    tie.close (
+    tie.spec (λ c κs. search needs) (λ c. search needs) (λ c. omega arith) (λ c. search needs) sub-result-2 returns returns-2)

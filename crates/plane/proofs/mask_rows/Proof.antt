@@ -27,116 +27,126 @@ loop-holds c =
     let a = c .before .before .args in
     (zero-le, zero-le, refl, refl, prepend-none _ ∙ ap (λ (n : ℕ). prepend [] (rowsOf (now (a .body)) n (literals 0))) (sym (sub-zero (a .h))))
 
-sub-rows-at : tie.Need-sub-rows-at Inv-loop μ-loop
-sub-rows-at c = omega arith
-
-rows-at-requires : tie.Need-rows-at-requires Inv-loop μ-loop
-rows-at-requires c κs = omega arith
-
-enum-known-n : tie.Need-enum-known-n Inv-loop μ-loop
-enum-known-n c = search needs
-
 add-copy : tie.Need-add-copy Inv-loop μ-loop
 add-copy c =
-    let e = rows-as (now (c .before .before .before .before .before .before .before .before .args .body)) (c .before .before .before .before .before .loop .at) (c .before .before .before .before .before .before .before .before .args .h - c .before .before .before .before .before .loop .i) (c .before .n .given .1) (c .before .before .before .rows-at .ensures) in
+    let rows-at = c .before .before .before .rows-at in let at-loop = c .before .before .before .before .before in
+    let loop = at-loop .loop in let args = at-loop .before .before .before .args in
+    let e = rows-as (now (args .body)) (loop .at) (args .h - loop .i) (c .before .n .given .1) (rows-at .ensures) in
     omega (arith, e .1)
 
 copy-requires : tie.Need-copy-requires Inv-loop μ-loop
 copy-requires c κs =
-    let e = rows-as (now (c .before .before .before .before .before .before .before .before .before .args .body)) (c .before .before .before .before .before .before .loop .at) (c .before .before .before .before .before .before .before .before .before .args .h - c .before .before .before .before .before .before .loop .i) (c .before .before .n .given .1) (c .before .before .before .before .rows-at .ensures) in
-    (e .1, omega (arith, e .0, c .before .before .before .before .before .before .loop .inv .2))
+    let n = c .before .before .n in let at-rows-at = c .before .before .before .before in let rows-at = at-rows-at .rows-at in
+    let loop = at-rows-at .before .before .loop in let args = at-rows-at .before .before .before .before .before .args in
+    let e = rows-as (now (args .body)) (loop .at) (args .h - loop .i) (n .given .1) (rows-at .ensures) in
+    (e .1, omega (arith, e .0, loop .inv .2))
 
 add-i : tie.Need-add-i Inv-loop μ-loop
 add-i c =
-    let e = rows-as (now (c .before .before .before .before .before .before .before .before .before .before .before .before .args .body)) (c .before .before .before .before .before .before .before .before .before .loop .at) (c .before .before .before .before .before .before .before .before .before .before .before .before .args .h - c .before .before .before .before .before .before .before .before .before .loop .i) (c .before .before .before .before .before .n .given .1) (c .before .before .before .before .before .before .before .rows-at .ensures) in
+    let at-n = c .before .before .before .before .before in let n = at-n .n in let rows-at = at-n .before .before .rows-at in
+    let at-loop = at-n .before .before .before .before in let loop = at-loop .loop in let args = at-loop .before .before .before .args in
+    let e = rows-as (now (args .body)) (loop .at) (args .h - loop .i) (n .given .1) (rows-at .ensures) in
     omega (arith, e .0)
-
-add-at : tie.Need-add-at Inv-loop μ-loop
-add-at c = omega arith
 
 add-at-2 : tie.Need-add-at-2 Inv-loop μ-loop
 add-at-2 c =
-    let e = rows-as (now (c .before .before .before .before .before .before .before .before .before .before .before .before .args .body)) (c .before .before .before .before .before .before .before .before .before .loop .at) (c .before .before .before .before .before .before .before .before .before .before .before .before .args .h - c .before .before .before .before .before .before .before .before .before .loop .i) (c .before .before .before .before .before .n .given .1) (c .before .before .before .before .before .before .before .rows-at .ensures) in
+    let at-n = c .before .before .before .before .before in let n = at-n .n in let rows-at = at-n .before .before .rows-at in
+    let at-loop = at-n .before .before .before .before in let loop = at-loop .loop in let args = at-loop .before .before .before .args in
+    let e = rows-as (now (args .body)) (loop .at) (args .h - loop .i) (n .given .1) (rows-at .ensures) in
     omega (arith, e .1)
 
 loop-less : tie.Need-loop-less Inv-loop μ-loop
 loop-less c =
-    let e = rows-as (now (c .before .before .before .before .before .before .before .before .before .before .before .before .args .body)) (c .before .before .before .before .before .before .before .before .before .loop .at) (c .before .before .before .before .before .before .before .before .before .before .before .before .args .h - c .before .before .before .before .before .before .before .before .before .loop .i) (c .before .before .before .before .before .n .given .1) (c .before .before .before .before .before .before .before .rows-at .ensures) in
+    let at-n = c .before .before .before .before .before in let n = at-n .n in let rows-at = at-n .before .before .rows-at in
+    let at-loop = at-n .before .before .before .before in let loop = at-loop .loop in let args = at-loop .before .before .before .args in
+    let e = rows-as (now (args .body)) (loop .at) (args .h - loop .i) (n .given .1) (rows-at .ensures) in
     omega (arith, e .0, e .1)
 
 loop-again : tie.Need-loop-again Inv-loop μ-loop
 loop-again c =
-    let a = c .before .before .before .before .before .before .before .before .before .before .before .before .args in
-    let l = c .before .before .before .before .before .before .before .before .before .loop in
+    let copy = c .before .before .copy in let at-n = c .before .before .before .before .before in let n′ = at-n .n in
+    let rows-at = at-n .before .before .rows-at in let at-loop = at-n .before .before .before .before in let l = at-loop .loop in
+    let a = at-loop .before .before .before .args in
     let s = now (a .body) in
-    let n = c .before .before .before .before .before .n .given .0 .0 in
-    let e = rows-as s (l .at) (a .h - l .i) (c .before .before .before .before .before .n .given .1) (c .before .before .before .before .before .before .before .rows-at .ensures) in
+    let n = n′ .given .0 .0 in
+    let e = rows-as s (l .at) (a .h - l .i) (n′ .given .1) (rows-at .ensures) in
     let xs = take n (drop (l .at + 1) s) in (
       omega (arith, e .0),
       e .1,
-      c .before .before .copy .kept .1 .1 .1 .0 ∙ l .inv .2,
-      c .before .before .copy .ensures .1 ∙ drop-more (l .out) _ (l .i) n (l .inv .3),
-      painted-on (drop (l .at) s) (drop (l .at + 1 + n) s) xs (a .h - l .i) n (e .2) _ (l .out) (c .before .before .copy .last .1 .1 .1 .0) (a .h) (l .i) refl (l .inv .4) (c .before .before .copy .ensures .0),
+      copy .kept .1 .1 .1 .0 ∙ l .inv .2,
+      copy .ensures .1 ∙ drop-more (l .out) _ (l .i) n (l .inv .3),
+      painted-on (drop (l .at) s) (drop (l .at + 1 + n) s) xs (a .h - l .i) n (e .2) _ (l .out) (copy .last .1 .1 .1 .0) (a .h) (l .i) refl (l .inv .4)
+          (copy .ensures .0),
     )
-
-enum-known-n-2 : tie.Need-enum-known-n-2 Inv-loop μ-loop
-enum-known-n-2 c = search needs
 
 add-fill : tie.Need-add-fill Inv-loop μ-loop
 add-fill c =
-    let e = rows-as (now (c .before .before .before .before .before .before .before .before .before .args .body)) (c .before .before .before .before .before .before .loop .at) (c .before .before .before .before .before .before .before .before .before .args .h - c .before .before .before .before .before .before .loop .i) (c .before .before .n2 .given .1) (c .before .before .before .before .rows-at .ensures) in
+    let n2 = c .before .before .n2 in let at-rows-at = c .before .before .before .before in let rows-at = at-rows-at .rows-at in
+    let loop = at-rows-at .before .before .loop in let args = at-rows-at .before .before .before .before .before .args in
+    let e = rows-as (now (args .body)) (loop .at) (args .h - loop .i) (n2 .given .1) (rows-at .ensures) in
     omega (arith, e .1)
 
 shared-slice-read-fill : tie.Need-shared-slice-read-fill Inv-loop μ-loop
 shared-slice-read-fill c =
-    let e = rows-as (now (c .before .before .before .before .before .before .before .before .before .before .args .body)) (c .before .before .before .before .before .before .before .loop .at) (c .before .before .before .before .before .before .before .before .before .before .args .h - c .before .before .before .before .before .before .before .loop .i) (c .before .before .before .n2 .given .1) (c .before .before .before .before .before .rows-at .ensures) in
+    let n2 = c .before .before .before .n2 in let at-rows-at = c .before .before .before .before .before in
+    let rows-at = at-rows-at .rows-at in let loop = at-rows-at .before .before .loop in
+    let args = at-rows-at .before .before .before .before .before .args in
+    let e = rows-as (now (args .body)) (loop .at) (args .h - loop .i) (n2 .given .1) (rows-at .ensures) in
     omega (arith, e .1)
 
 fill-requires : tie.Need-fill-requires Inv-loop μ-loop
 fill-requires c κs =
-    let e = rows-as (now (c .before .before .before .before .before .before .before .before .before .before .args .body)) (c .before .before .before .before .before .before .before .loop .at) (c .before .before .before .before .before .before .before .before .before .before .args .h - c .before .before .before .before .before .before .before .loop .i) (c .before .before .before .n2 .given .1) (c .before .before .before .before .before .rows-at .ensures) in
-    omega (arith, e .0, c .before .before .before .before .before .before .before .loop .inv .2)
+    let n2 = c .before .before .before .n2 in let at-rows-at = c .before .before .before .before .before in
+    let rows-at = at-rows-at .rows-at in let loop = at-rows-at .before .before .loop in
+    let args = at-rows-at .before .before .before .before .before .args in
+    let e = rows-as (now (args .body)) (loop .at) (args .h - loop .i) (n2 .given .1) (rows-at .ensures) in
+    omega (arith, e .0, loop .inv .2)
 
 add-i-2 : tie.Need-add-i-2 Inv-loop μ-loop
 add-i-2 c =
-    let e = rows-as (now (c .before .before .before .before .before .before .before .before .before .before .before .before .before .args .body)) (c .before .before .before .before .before .before .before .before .before .before .loop .at) (c .before .before .before .before .before .before .before .before .before .before .before .before .before .args .h - c .before .before .before .before .before .before .before .before .before .before .loop .i) (c .before .before .before .before .before .before .n2 .given .1) (c .before .before .before .before .before .before .before .before .rows-at .ensures) in
+    let at-n2 = c .before .before .before .before .before .before in let n2 = at-n2 .n2 in let rows-at = at-n2 .before .before .rows-at in
+    let at-loop = at-n2 .before .before .before .before in let loop = at-loop .loop in let args = at-loop .before .before .before .args in
+    let e = rows-as (now (args .body)) (loop .at) (args .h - loop .i) (n2 .given .1) (rows-at .ensures) in
     omega (arith, e .0)
 
 add-at-3 : tie.Need-add-at-3 Inv-loop μ-loop
 add-at-3 c =
-    let e = rows-as (now (c .before .before .before .before .before .before .before .before .before .before .before .before .before .args .body)) (c .before .before .before .before .before .before .before .before .before .before .loop .at) (c .before .before .before .before .before .before .before .before .before .before .before .before .before .args .h - c .before .before .before .before .before .before .before .before .before .before .loop .i) (c .before .before .before .before .before .before .n2 .given .1) (c .before .before .before .before .before .before .before .before .rows-at .ensures) in
+    let at-n2 = c .before .before .before .before .before .before in let n2 = at-n2 .n2 in let rows-at = at-n2 .before .before .rows-at in
+    let at-loop = at-n2 .before .before .before .before in let loop = at-loop .loop in let args = at-loop .before .before .before .args in
+    let e = rows-as (now (args .body)) (loop .at) (args .h - loop .i) (n2 .given .1) (rows-at .ensures) in
     omega (arith, e .1)
 
 loop-less-2 : tie.Need-loop-less-2 Inv-loop μ-loop
 loop-less-2 c =
-    let e = rows-as (now (c .before .before .before .before .before .before .before .before .before .before .before .before .before .args .body)) (c .before .before .before .before .before .before .before .before .before .before .loop .at) (c .before .before .before .before .before .before .before .before .before .before .before .before .before .args .h - c .before .before .before .before .before .before .before .before .before .before .loop .i) (c .before .before .before .before .before .before .n2 .given .1) (c .before .before .before .before .before .before .before .before .rows-at .ensures) in
+    let at-n2 = c .before .before .before .before .before .before in let n2 = at-n2 .n2 in let rows-at = at-n2 .before .before .rows-at in
+    let at-loop = at-n2 .before .before .before .before in let loop = at-loop .loop in let args = at-loop .before .before .before .args in
+    let e = rows-as (now (args .body)) (loop .at) (args .h - loop .i) (n2 .given .1) (rows-at .ensures) in
     omega (arith, e .0, e .1)
 
 loop-again-2 : tie.Need-loop-again-2 Inv-loop μ-loop
 loop-again-2 c =
-    let a = c .before .before .before .before .before .before .before .before .before .before .before .before .before .args in
-    let l = c .before .before .before .before .before .before .before .before .before .before .loop in
+    let fill = c .before .before .fill in let at-n2 = c .before .before .before .before .before .before in let n2 = at-n2 .n2 in
+    let rows-at = at-n2 .before .before .rows-at in let at-loop = at-n2 .before .before .before .before in let l = at-loop .loop in
+    let a = at-loop .before .before .before .args in
     let s = now (a .body) in
-    let n = c .before .before .before .before .before .before .n2 .given .0 .0 in
-    let e = rows-as s (l .at) (a .h - l .i) (c .before .before .before .before .before .before .n2 .given .1) (c .before .before .before .before .before .before .before .before .rows-at .ensures) in
+    let n = n2 .given .0 .0 in
+    let e = rows-as s (l .at) (a .h - l .i) (n2 .given .1) (rows-at .ensures) in
     let xs = replicate n (getD s (l .at + 1) 0) in (
       omega (arith, e .0),
       e .1,
-      c .before .before .fill .kept .0 ∙ l .inv .2,
-      c .before .before .fill .ensures .1 ∙ drop-more (l .out) _ (l .i) n (l .inv .3),
-      painted-on (drop (l .at) s) (drop (l .at + 2) s) xs (a .h - l .i) n (e .2) _ (l .out) (c .before .before .fill .last .0) (a .h) (l .i) refl (l .inv .4) (c .before .before .fill .ensures .0),
+      fill .kept .0 ∙ l .inv .2,
+      fill .ensures .1 ∙ drop-more (l .out) _ (l .i) n (l .inv .3),
+      painted-on (drop (l .at) s) (drop (l .at + 2) s) xs (a .h - l .i) n (e .2) _ (l .out) (fill .last .0) (a .h) (l .i) refl (l .inv .4) (fill .ensures .0),
     )
-
-enum-known-number : tie.Need-enum-known-number Inv-loop μ-loop
-enum-known-number c = search needs
 
 same-length : tie.Need-same-length Inv-loop μ-loop
 same-length c = c .before .before .before .before .before .loop .inv .2
 
 returns : tie.Need-returns Inv-loop μ-loop
 returns c =
-    let l = c .before .before .before .before .before .loop in
-    let e = rows-as (now (c .before .before .before .before .before .before .before .before .args .body)) (l .at) (c .before .before .before .before .before .before .before .before .args .h - l .i) (c .before .number .given .1) (c .before .before .before .rows-at .ensures) in
+    let rows-at = c .before .before .before .rows-at in let at-loop = c .before .before .before .before .before in let l = at-loop .loop in
+    let args = at-loop .before .before .before .args in
+    let e = rows-as (now (args .body)) (l .at) (args .h - l .i) (c .before .number .given .1) (rows-at .ensures) in
     l .inv .4 ∙ ap (prepend (take (l .i) (l .out))) e
 
 same-length-2 : tie.Need-same-length-2 Inv-loop μ-loop
@@ -150,31 +160,7 @@ returns-2 c =
 
 pub mask-rows-spec : {M : Type 1} → statement M
 mask-rows-spec =
-    tie.close
-    (tie.spec
-    Inv-loop
-    μ-loop
-    loop-holds
-    sub-rows-at
-    rows-at-requires
-    enum-known-n
-    add-copy
-    copy-requires
-    add-i
-    add-at
-    add-at-2
-    loop-less
-    loop-again
-    enum-known-n-2
-    add-fill
-    shared-slice-read-fill
-    fill-requires
-    add-i-2
-    add-at-3
-    loop-less-2
-    loop-again-2
-    enum-known-number
-    same-length
-    returns
-    same-length-2
-    returns-2)
+    tie.close (
+    tie.spec Inv-loop μ-loop loop-holds (λ c. omega arith) (λ c κs. omega arith) (λ c. search needs) add-copy copy-requires add-i
+    (λ c. omega arith) add-at-2 loop-less loop-again (λ c. search needs) add-fill shared-slice-read-fill fill-requires add-i-2 add-at-3
+    loop-less-2 loop-again-2 (λ c. search needs) same-length returns same-length-2 returns-2)

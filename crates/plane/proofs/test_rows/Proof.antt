@@ -19,28 +19,25 @@ abbrev μ-loop : tie.MeasureT-loop
 loop-holds : tie.Need-loop-holds Inv-loop μ-loop
 loop-holds c = (zero-le, refl)
 
-rows-at-requires : tie.Need-rows-at-requires Inv-loop μ-loop
-rows-at-requires c κs = omega arith
-
-enum-known-n : tie.Need-enum-known-n Inv-loop μ-loop
-enum-known-n c = search needs
-
 sub-left : tie.Need-sub-left Inv-loop μ-loop
 sub-left c =
-    let e = rows-as (now (c .before .before .before .before .before .before .before .args .body)) (c .before .before .before .before .before .loop .at) (c .before .before .before .before .before .loop .left) (c .before .n .given .1) (c .before .before .before .rows-at .ensures) in
+    let rows-at = c .before .before .before .rows-at in let at-loop = c .before .before .before .before .before in
+    let loop = at-loop .loop in let args = at-loop .before .before .args in
+    let e = rows-as (now (args .body)) (loop .at) (loop .left) (c .before .n .given .1) (rows-at .ensures) in
     e .0
-
-add-at : tie.Need-add-at Inv-loop μ-loop
-add-at c = omega arith
 
 add-at-2 : tie.Need-add-at-2 Inv-loop μ-loop
 add-at-2 c =
-    let e = rows-as (now (c .before .before .before .before .before .before .before .args .body)) (c .before .before .before .before .before .loop .at) (c .before .before .before .before .before .loop .left) (c .before .n .given .1) (c .before .before .before .rows-at .ensures) in
+    let rows-at = c .before .before .before .rows-at in let at-loop = c .before .before .before .before .before in
+    let loop = at-loop .loop in let args = at-loop .before .before .args in
+    let e = rows-as (now (args .body)) (loop .at) (loop .left) (c .before .n .given .1) (rows-at .ensures) in
     omega (arith, e .1)
 
 loop-less : tie.Need-loop-less Inv-loop μ-loop
 loop-less c =
-    let e = rows-as (now (c .before .before .before .before .before .before .before .args .body)) (c .before .before .before .before .before .loop .at) (c .before .before .before .before .before .loop .left) (c .before .n .given .1) (c .before .before .before .rows-at .ensures) in
+    let rows-at = c .before .before .before .rows-at in let at-loop = c .before .before .before .before .before in
+    let loop = at-loop .loop in let args = at-loop .before .before .args in
+    let e = rows-as (now (args .body)) (loop .at) (loop .left) (c .before .n .given .1) (rows-at .ensures) in
     omega (arith, e .0, e .1)
 
 loop-again : tie.Need-loop-again Inv-loop μ-loop
@@ -51,22 +48,25 @@ loop-again c =
     let e = rows-as s (l .at) (l .left) (c .before .n .given .1) (c .before .before .before .rows-at .ensures) in
     (e .1, tested-on (drop (l .at) s) (drop (l .at + 1 + n) s) (take n (drop (l .at + 1) s)) (l .left) n (e .2) _ (l .inv .1))
 
-enum-known-n-2 : tie.Need-enum-known-n-2 Inv-loop μ-loop
-enum-known-n-2 c = search needs
-
 sub-left-2 : tie.Need-sub-left-2 Inv-loop μ-loop
 sub-left-2 c =
-    let e = rows-as (now (c .before .before .before .before .before .before .before .args .body)) (c .before .before .before .before .before .loop .at) (c .before .before .before .before .before .loop .left) (c .before .n2 .given .1) (c .before .before .before .rows-at .ensures) in
+    let rows-at = c .before .before .before .rows-at in let at-loop = c .before .before .before .before .before in
+    let loop = at-loop .loop in let args = at-loop .before .before .args in
+    let e = rows-as (now (args .body)) (loop .at) (loop .left) (c .before .n2 .given .1) (rows-at .ensures) in
     e .0
 
 add-at-3 : tie.Need-add-at-3 Inv-loop μ-loop
 add-at-3 c =
-    let e = rows-as (now (c .before .before .before .before .before .before .before .args .body)) (c .before .before .before .before .before .loop .at) (c .before .before .before .before .before .loop .left) (c .before .n2 .given .1) (c .before .before .before .rows-at .ensures) in
+    let rows-at = c .before .before .before .rows-at in let at-loop = c .before .before .before .before .before in
+    let loop = at-loop .loop in let args = at-loop .before .before .args in
+    let e = rows-as (now (args .body)) (loop .at) (loop .left) (c .before .n2 .given .1) (rows-at .ensures) in
     omega (arith, e .1)
 
 loop-less-2 : tie.Need-loop-less-2 Inv-loop μ-loop
 loop-less-2 c =
-    let e = rows-as (now (c .before .before .before .before .before .before .before .args .body)) (c .before .before .before .before .before .loop .at) (c .before .before .before .before .before .loop .left) (c .before .n2 .given .1) (c .before .before .before .rows-at .ensures) in
+    let rows-at = c .before .before .before .rows-at in let at-loop = c .before .before .before .before .before in
+    let loop = at-loop .loop in let args = at-loop .before .before .args in
+    let e = rows-as (now (args .body)) (loop .at) (loop .left) (c .before .n2 .given .1) (rows-at .ensures) in
     omega (arith, e .0, e .1)
 
 loop-again-2 : tie.Need-loop-again-2 Inv-loop μ-loop
@@ -77,13 +77,12 @@ loop-again-2 c =
     let e = rows-as s (l .at) (l .left) (c .before .n2 .given .1) (c .before .before .before .rows-at .ensures) in
     (e .1, tested-on (drop (l .at) s) (drop (l .at + 2) s) (replicate n (getD s (l .at + 1) 0)) (l .left) n (e .2) _ (l .inv .1))
 
-enum-known-number : tie.Need-enum-known-number Inv-loop μ-loop
-enum-known-number c = search needs
-
 returns : tie.Need-returns Inv-loop μ-loop
 returns c =
-    let e = rows-as (now (c .before .before .before .before .before .before .before .args .body)) (c .before .before .before .before .before .loop .at) (c .before .before .before .before .before .loop .left) (c .before .number .given .1) (c .before .before .before .rows-at .ensures) in
-    sym (c .before .before .before .before .before .loop .inv .1 ∙ ap madeOf e)
+    let rows-at = c .before .before .before .rows-at in let at-loop = c .before .before .before .before .before in
+    let loop = at-loop .loop in let args = at-loop .before .before .args in
+    let e = rows-as (now (args .body)) (loop .at) (loop .left) (c .before .number .given .1) (rows-at .ensures) in
+    sym (loop .inv .1 ∙ ap madeOf e)
 
 returns-2 : tie.Need-returns-2 Inv-loop μ-loop
 returns-2 c =
@@ -92,23 +91,6 @@ returns-2 c =
 
 pub test-rows-spec : {M : Type 1} → statement M
 test-rows-spec =
-    tie.close
-    (tie.spec
-    Inv-loop
-    μ-loop
-    loop-holds
-    rows-at-requires
-    enum-known-n
-    sub-left
-    add-at
-    add-at-2
-    loop-less
-    loop-again
-    enum-known-n-2
-    sub-left-2
-    add-at-3
-    loop-less-2
-    loop-again-2
-    enum-known-number
-    returns
-    returns-2)
+    tie.close (
+    tie.spec Inv-loop μ-loop loop-holds (λ c κs. omega arith) (λ c. search needs) sub-left (λ c. omega arith) add-at-2 loop-less loop-again
+    (λ c. search needs) sub-left-2 add-at-3 loop-less-2 loop-again-2 (λ c. search needs) returns returns-2)

@@ -13,6 +13,6 @@ abbrev μ-loop : tie.MeasureT-loop
 
 pub answers-spec : {M : Type 1} → statement M
 answers-spec =
-    tie.close (tie.spec
-    Inv-loop μ-loop (λ c. omega arith) (λ c. omega arith) (λ c. omega arith) (λ c κs. search needs) (λ c. omega arith) (λ c. omega arith)
-    (λ c. omega arith) (λ c. search needs))
+    tie.close (
+    tie.spec Inv-loop μ-loop (λ c. omega arith) (λ c. omega arith) (λ c. omega arith) (λ c κs. search needs) (λ c. omega arith)
+    (λ c. omega arith) (λ c. omega arith) (λ c. search needs))

@@ -51,6 +51,6 @@ returns c =
 
 pub checksum-spec : {M : Type 1} → statement M
 checksum-spec =
-    tie.close (tie.spec
-    Inv-loop μ-loop loop-holds (λ c. omega arith) cast-low add-low add-high (λ c. omega arith) (λ c. omega arith) loop-again mul-result add-result
-    returns)
+    tie.close (
+    tie.spec Inv-loop μ-loop loop-holds (λ c. omega arith) cast-low add-low add-high (λ c. omega arith) (λ c. omega arith) loop-again
+    mul-result add-result returns)

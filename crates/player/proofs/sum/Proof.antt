@@ -11,5 +11,6 @@ slice-aggregate-checksum c = sym (simp length-take (omega (arith, c .before .bef
 
 pub sum-spec : {M : Type 1} → statement M
 sum-spec =
-    tie.close (tie.spec
-    (λ c κs. search needs) slice-aggregate-checksum (λ c κs. search needs) (λ c. search needs) (λ c κs. search needs) (λ c. search needs))
+    tie.close (
+    tie.spec (λ c κs. search needs) slice-aggregate-checksum (λ c κs. search needs) (λ c. search needs) (λ c κs. search needs)
+    (λ c. search needs))

@@ -40,6 +40,6 @@ sum-requires-2 c κs =
 
 pub sums-spec : {M : Type 1} → statement M
 sums-spec =
-    tie.close (tie.spec
-    mul-rows (λ c. search needs) mul-sum sum-requires (λ c. search needs) mul-sum-2 sum-requires-2 (λ c. search needs) (λ c κs. search needs)
-    (λ c. search needs))
+    tie.close (
+    tie.spec mul-rows (λ c. search needs) mul-sum sum-requires (λ c. search needs) mul-sum-2 sum-requires-2 (λ c. search needs)
+    (λ c κs. search needs) (λ c. search needs))

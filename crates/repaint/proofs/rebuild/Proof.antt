@@ -26,13 +26,9 @@ loop-holds : tie.Need-loop-holds Inv-loop μ-loop
 loop-holds c = (omega arith, refl, refl, touch-none _ _ _ _, touch-none _ _ _ _)
 
 shared-slice-read-if1 : tie.Need-shared-slice-read-if1 Inv-loop μ-loop
-shared-slice-read-if1 c = omega (arith, c .before .before .before .before .before .before .before .before .before .before .pre .0 .2)
-
-add-k : tie.Need-add-k Inv-loop μ-loop
-add-k c = omega arith
-
-loop-less : tie.Need-loop-less Inv-loop μ-loop
-loop-less c = omega arith
+shared-slice-read-if1 c =
+    let pre = c .before .before .before .before .before .before .before .before .before .before .pre in
+    omega (arith, pre .0 .2)
 
 loop-again : tie.Need-loop-again Inv-loop μ-loop
 loop-again c =
@@ -48,17 +44,14 @@ rebuild-strip-requires c κs =
       (omega (arith, start .pre .1 .0, inv .1), omega (arith, start .pre .1 .1, inv .2)),
     )
 
-add-k-2 : tie.Need-add-k-2 Inv-loop μ-loop
-add-k-2 c = omega arith
-
-loop-less-2 : tie.Need-loop-less-2 Inv-loop μ-loop
-loop-less-2 c = omega arith
-
 loop-again-2 : tie.Need-loop-again-2 Inv-loop μ-loop
 loop-again-2 c =
-    let inv = c .before .before .before .before .before .before .before .before .before .before .loop .inv in
-    let on = ap not (ne-eqb _ 0 (c .before .before .before .before .before .before .before .if1 .left)) in
-    let call = c .before .before .before .before .rebuild-strip in (
+    let at-rebuild-strip = c .before .before .before .before in let rebuild-strip = at-rebuild-strip .rebuild-strip in
+    let if1 = at-rebuild-strip .before .before .before .if1 in
+    let loop = at-rebuild-strip .before .before .before .before .before .before .loop in
+    let inv = loop .inv in
+    let on = ap not (ne-eqb _ 0 (if1 .left)) in
+    let call = rebuild-strip in (
       omega arith,
       call .kept .1 .1 .1 .1 .1 .1 .0 ∙ inv .1,
       call .kept .1 .1 .1 .1 .1 .1 .1 .0 ∙ inv .2,
@@ -83,19 +76,6 @@ returns c =
 
 pub rebuild-spec : {M : Type 1} → statement M
 rebuild-spec =
-    tie.close
-    (tie.spec
-    Inv-loop
-    μ-loop
-    loop-holds
-    shared-slice-read-if1
-    add-k
-    loop-less
-    loop-again
-    rebuild-strip-requires
-    add-k-2
-    loop-less-2
-    loop-again-2
-    same-length
-    same-length-2
-    returns)
+    tie.close (
+    tie.spec Inv-loop μ-loop loop-holds shared-slice-read-if1 (λ c. omega arith) (λ c. omega arith) loop-again rebuild-strip-requires
+    (λ c. omega arith) (λ c. omega arith) loop-again-2 same-length same-length-2 returns)

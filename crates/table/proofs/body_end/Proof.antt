@@ -22,29 +22,23 @@ offset-at-requires c κs =
     let cells = mul-le-mul-left (offsetSize (c .before .before .before .args .mask)) (c .loop-test .taken) in
     (omega arith, omega arith)
 
-add-result : tie.Need-add-result Inv-loop μ-loop
-add-result c = omega arith
-
 returns : tie.Need-returns Inv-loop μ-loop
 returns c =
-    let more : c .before .before .before .before .before .args .n - c .before .before .before .loop .j ≡ suc (c .before .before .before .before .before .args .n - (c .before .before .before .loop .j + 1)) = omega arith in
-    sym (end-here _ _ _ _ _ _ _ _ more (c .before .offset-at .ensures .0) (c .if1 .taken)) ∙ c .before .before .before .loop .inv .1
-
-add-j : tie.Need-add-j Inv-loop μ-loop
-add-j c = omega arith
-
-loop-less : tie.Need-loop-less Inv-loop μ-loop
-loop-less c = omega arith
+    let loop = c .before .before .before .loop in let args = c .before .before .before .before .before .args in
+    let more : args .n - loop .j ≡ suc (args .n - (loop .j + 1)) = omega arith in
+    sym (end-here _ _ _ _ _ _ _ _ more (c .before .offset-at .ensures .0) (c .if1 .taken)) ∙ loop .inv .1
 
 loop-again : tie.Need-loop-again Inv-loop μ-loop
 loop-again c =
-    let more : c .before .before .before .before .before .args .n - c .before .before .before .loop .j ≡ suc (c .before .before .before .before .before .args .n - (c .before .before .before .loop .j + 1)) = omega arith in
-    (omega arith, sym (end-on _ _ _ _ _ _ _ _ more (c .before .offset-at .ensures .0) (c .if1 .left)) ∙ c .before .before .before .loop .inv .1)
+    let loop = c .before .before .before .loop in let args = c .before .before .before .before .before .args in
+    let more : args .n - loop .j ≡ suc (args .n - (loop .j + 1)) = omega arith in
+    (omega arith, sym (end-on _ _ _ _ _ _ _ _ more (c .before .offset-at .ensures .0) (c .if1 .left)) ∙ loop .inv .1)
 
 returns-2 : tie.Need-returns-2 Inv-loop μ-loop
 returns-2 c = sym (end-none _ _ _ _ _ _ (omega arith)) ∙ c .before .loop .inv .1
 
 pub body-end-spec : {M : Type 1} → statement M
 body-end-spec =
-    tie.close
-    (tie.spec Inv-loop μ-loop loop-holds offset-at-requires add-result returns add-j loop-less loop-again returns-2)
+    tie.close (
+    tie.spec Inv-loop μ-loop loop-holds offset-at-requires (λ c. omega arith) returns (λ c. omega arith) (λ c. omega arith) loop-again
+    returns-2)

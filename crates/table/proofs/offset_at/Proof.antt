@@ -24,6 +24,6 @@ returns-2 c = (rw (c .before .if1 .left) (c .read-le32 .ensures .0), omega arith
 
 pub offset-at-spec : {M : Type 1} → statement M
 offset-at-spec =
-    tie.close
-    (tie.spec (λ c. search needs) (λ c. search needs) (λ c. search needs) read-le16-requires (λ c. search needs) (λ c. search needs)
+    tie.close (
+    tie.spec (λ c. search needs) (λ c. search needs) (λ c. search needs) read-le16-requires (λ c. search needs) (λ c. search needs)
     (λ c. search needs) read-le32-requires returns returns-2)

@@ -9,6 +9,4 @@ unfolding stripAt
 returns c = rw (← c .before .before .before .before .strip-body .ensures) (c .before .before .decode-strip .ensures)
 
 pub read-strip-spec : {M : Type 1} → statement M
-read-strip-spec =
-    tie.close
-    (tie.spec (λ c κs. search needs) (λ c κs. search needs) (λ c. search needs) returns)
+read-strip-spec = tie.close (tie.spec (λ c κs. search needs) (λ c κs. search needs) (λ c. search needs) returns)

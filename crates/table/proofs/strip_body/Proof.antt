@@ -34,6 +34,6 @@ returns c = rw (← c .before .before .offset-at .ensures .0, ← c .before .bod
 
 pub strip-body-spec : {M : Type 1} → statement M
 strip-body-spec =
-    tie.close
-    (tie.spec offset-at-requires (λ c. search needs) (λ c. search needs) body-end-requires sub-result part-result-start part-result-end
+    tie.close (
+    tie.spec offset-at-requires (λ c. search needs) (λ c. search needs) body-end-requires sub-result part-result-start part-result-end
     returns)

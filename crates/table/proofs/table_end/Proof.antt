@@ -11,5 +11,5 @@ returns-2 c = rw (c .if1 .left)
 
 pub table-end-spec : {M : Type 1} → statement M
 table-end-spec =
-    tie.close
-    (tie.spec (λ c. search needs) (λ c. search needs) (λ c. search needs) (λ c. search needs) returns returns-2)
+    tie.close (
+    tie.spec (λ c. search needs) (λ c. search needs) (λ c. search needs) (λ c. search needs) returns returns-2)

@@ -14,9 +14,6 @@ Inv-loop room mask n b z size low before₀ k₀ before k = (k ≤ n) × (offset
 abbrev μ-loop : tie.MeasureT-loop
 μ-loop room mask n b z size low before₀ k₀ before k = n - k
 
-sub-size : tie.Need-sub-size Inv-loop μ-loop
-sub-size c = omega arith
-
 returns : tie.Need-returns Inv-loop μ-loop
 returns c = table-short _ _ _ _ _ _ (c .before .table-end .ensures) (c .if1 .taken)
 
@@ -29,38 +26,36 @@ offset-at-requires c κs =
     let low = rw (c .before .before .before .table-end .ensures) at (c .before .before .if1 .left) in
     (omega arith, omega arith)
 
-add-k : tie.Need-add-k Inv-loop μ-loop
-add-k c = omega arith
-
-loop-less : tie.Need-loop-less Inv-loop μ-loop
-loop-less c = omega arith
-
 loop-again : tie.Need-loop-again Inv-loop μ-loop
 loop-again c =
-    let more : c .before .before .before .before .before .before .before .args .n - c .before .before .before .loop .k ≡ suc (c .before .before .before .before .before .before .before .args .n - (c .before .before .before .loop .k + 1)) = omega arith in
-    (omega arith, sym (offsets-pass _ _ _ _ _ _ _ _ _ _ more (c .before .offset-at .ensures .0) (c .if2 .taken)) ∙ c .before .before .before .loop .inv .1)
-
-add-k-2 : tie.Need-add-k-2 Inv-loop μ-loop
-add-k-2 c = omega arith
-
-loop-less-2 : tie.Need-loop-less-2 Inv-loop μ-loop
-loop-less-2 c = omega arith
+    let loop = c .before .before .before .loop in let args = c .before .before .before .before .before .before .before .args in
+    let more : args .n - loop .k ≡ suc (args .n - (loop .k + 1)) = omega arith in
+    (omega arith, sym (offsets-pass _ _ _ _ _ _ _ _ _ _ more (c .before .offset-at .ensures .0) (c .if2 .taken)) ∙ loop .inv .1)
 
 loop-again-2 : tie.Need-loop-again-2 Inv-loop μ-loop
 loop-again-2 c =
-    let more : c .before .before .before .before .before .before .before .before .before .args .n - c .before .before .before .before .before .loop .k ≡ suc (c .before .before .before .before .before .before .before .before .before .args .n - (c .before .before .before .before .before .loop .k + 1)) = omega arith in
-    (omega arith, sym (offsets-next _ _ _ _ _ _ _ _ _ _ more (c .before .before .before .offset-at .ensures .0) (c .before .before .if2 .left) (sym (c .before .offset-right .ensures) ∙ c .if3 .taken)) ∙ c .before .before .before .before .before .loop .inv .1)
+    let if2 = c .before .before .if2 in let offset-at = c .before .before .before .offset-at in
+    let at-loop = c .before .before .before .before .before in let loop = at-loop .loop in
+    let args = at-loop .before .before .before .before .args in
+    let more : args .n - loop .k ≡ suc (args .n - (loop .k + 1)) = omega arith in (
+      omega arith,
+      sym (offsets-next _ _ _ _ _ _ _ _ _ _ more (offset-at .ensures .0) (if2 .left) (sym (c .before .offset-right .ensures) ∙ c .if3 .taken)) ∙
+          loop .inv .1,
+    )
 
 returns-2 : tie.Need-returns-2 Inv-loop μ-loop
 returns-2 c =
-    let more : c .before .before .before .before .before .before .before .before .before .args .n - c .before .before .before .before .before .loop .k ≡ suc (c .before .before .before .before .before .before .before .before .before .args .n - (c .before .before .before .before .before .loop .k + 1)) = omega arith in
-    sym (offsets-wrong _ _ _ _ _ _ _ _ _ _ more (c .before .before .before .offset-at .ensures .0) (c .before .before .if2 .left) (sym (c .before .offset-right .ensures) ∙ c .if3 .left)) ∙ c .before .before .before .before .before .loop .inv .1
+    let if2 = c .before .before .if2 in let offset-at = c .before .before .before .offset-at in
+    let at-loop = c .before .before .before .before .before in let loop = at-loop .loop in
+    let args = at-loop .before .before .before .before .args in
+    let more : args .n - loop .k ≡ suc (args .n - (loop .k + 1)) = omega arith in
+    sym (offsets-wrong _ _ _ _ _ _ _ _ _ _ more (offset-at .ensures .0) (if2 .left) (sym (c .before .offset-right .ensures) ∙ c .if3 .left)) ∙ loop .inv .1
 
 returns-3 : tie.Need-returns-3 Inv-loop μ-loop
 returns-3 c = sym (offsets-none _ _ _ _ _ _ _ _ (omega arith)) ∙ c .before .loop .inv .1
 
 pub table-right-spec : {M : Type 1} → statement M
 table-right-spec =
-    tie.close
-    (tie.spec Inv-loop μ-loop sub-size (λ c κs. search needs) returns loop-holds offset-at-requires add-k loop-less loop-again
-    (λ c κs. search needs) add-k-2 loop-less-2 loop-again-2 returns-2 returns-3)
+    tie.close (
+    tie.spec Inv-loop μ-loop (λ c. omega arith) (λ c κs. search needs) returns loop-holds offset-at-requires (λ c. omega arith)
+    (λ c. omega arith) loop-again (λ c κs. search needs) (λ c. omega arith) (λ c. omega arith) loop-again-2 returns-2 returns-3)

@@ -28,30 +28,29 @@ loop-holds c = (omega arith, rw (sub-zero, ← c .before .table-right .ensures, 
 
 test-strip-requires : tie.Need-test-strip-requires Inv-loop μ-loop
 test-strip-requires c κs =
-    let a = c .before .before .before .before .before .args in
-    ((c .before .before .before .before .before .pre .0, c .loop-test .taken, c .before .before .before .before .before .pre .1, c .before .before .before .before .before .pre .2, c .before .before .before .before .before .pre .3), sym (c .before .before .before .table-right .ensures) ∙ not-false _ (c .before .before .if1 .left))
-
-add-k : tie.Need-add-k Inv-loop μ-loop
-add-k c = omega arith
-
-loop-less : tie.Need-loop-less Inv-loop μ-loop
-loop-less c = omega arith
+    let if1 = c .before .before .if1 in let table-right = c .before .before .before .table-right in
+    let start = c .before .before .before .before .before in let a = start .args in let pre = start .pre in
+    ((pre .0, c .loop-test .taken, pre .1, pre .2, pre .3), sym (table-right .ensures) ∙ not-false _ (if1 .left))
 
 loop-again : tie.Need-loop-again Inv-loop μ-loop
 loop-again c =
-    let more : c .before .before .before .before .before .before .before .before .args .n - c .before .before .before .before .loop .k ≡ suc (c .before .before .before .before .before .before .before .before .args .n - (c .before .before .before .before .loop .k + 1)) = omega arith in
-    (omega arith, sym (leftmost-pass _ _ _ _ more (sym (c .before .before .test-strip .ensures) ∙ c .enum-told .given .1)) ∙ c .before .before .before .before .loop .inv .1)
+    let test-strip = c .before .before .test-strip in let at-loop = c .before .before .before .before in let loop = at-loop .loop in
+    let args = at-loop .before .before .before .before .args in
+    let more : args .n - loop .k ≡ suc (args .n - (loop .k + 1)) = omega arith in
+    (omega arith, sym (leftmost-pass _ _ _ _ more (sym (test-strip .ensures) ∙ c .enum-told .given .1)) ∙ loop .inv .1)
 
 returns-2 : tie.Need-returns-2 Inv-loop μ-loop
 returns-2 c =
-    let more : c .before .before .before .before .before .before .before .before .before .args .n - c .before .before .before .before .before .loop .k ≡ suc (c .before .before .before .before .before .before .before .before .before .args .n - (c .before .before .before .before .before .loop .k + 1)) = omega arith in
-    sym (leftmost-stop _ _ _ _ more _ (sym (c .before .before .before .test-strip .ensures) ∙ c .before .number .given .1)) ∙ c .before .before .before .before .before .loop .inv .1
+    let test-strip = c .before .before .before .test-strip in let at-loop = c .before .before .before .before .before in
+    let loop = at-loop .loop in let args = at-loop .before .before .before .before .args in
+    let more : args .n - loop .k ≡ suc (args .n - (loop .k + 1)) = omega arith in
+    sym (leftmost-stop _ _ _ _ more _ (sym (test-strip .ensures) ∙ c .before .number .given .1)) ∙ loop .inv .1
 
 returns-3 : tie.Need-returns-3 Inv-loop μ-loop
 returns-3 c = sym (leftmost-none _ _ _ (omega arith)) ∙ c .before .loop .inv .1
 
 pub test-block-spec : {M : Type 1} → statement M
 test-block-spec =
-    tie.close
-    (tie.spec Inv-loop μ-loop table-right-requires returns loop-holds test-strip-requires (λ c. search needs) add-k loop-less loop-again
-    (λ c. search needs) returns-2 returns-3)
+    tie.close (
+    tie.spec Inv-loop μ-loop table-right-requires returns loop-holds test-strip-requires (λ c. search needs) (λ c. omega arith)
+    (λ c. omega arith) loop-again (λ c. search needs) returns-2 returns-3)

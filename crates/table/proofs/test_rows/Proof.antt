@@ -27,20 +27,26 @@ strip-body-requires c κs = (omega arith, (c .before .before .before .pre .1, ne
 
 returns-2 : tie.Need-returns-2
 returns-2 c =
-    let a = c .before .before .before .before .before .before .before .args in
+    let test-rows = c .before .before .test-rows in let strip-body = c .before .before .before .strip-body in
+    let at-if1 = c .before .before .before .before in let if1 = at-if1 .if1 in let offset-at = at-if1 .before .offset-at in
+    let a = at-if1 .before .before .before .args in
     let body = bodyOf true (a .n) (now (a .room)) (a .b) (a .z) (a .k) in
-    made-passes (rowsOf body (a .h) (literals 0)) (ap (λ (l : List ℕ). madeOf (rowsOf l (a .h) (literals 0))) (sym (c .before .before .before .strip-body .ensures)) ∙ sym (c .before .before .test-rows .ensures) ∙ c .enum-told .given .1)
-    ∙ sym (body-tested (a .n) (a .h) (now (a .room)) (a .b) (a .z) (a .k) (λ e. c .before .before .before .before .if1 .left (c .before .before .before .before .before .offset-at .ensures .0 ∙ e)))
+    made-passes (rowsOf body (a .h) (literals 0)) (ap (λ (l : List ℕ). madeOf (rowsOf l (a .h) (literals 0))) (sym (strip-body .ensures)) ∙ sym
+    (test-rows .ensures) ∙ c .enum-told .given .1)
+    ∙ sym (body-tested (a .n) (a .h) (now (a .room)) (a .b) (a .z) (a .k) (λ e. if1 .left (offset-at .ensures .0 ∙ e)))
 
 returns-3 : tie.Need-returns-3
 returns-3 c =
-    let a = c .before .before .before .before .before .before .before .before .args in
+    let test-rows = c .before .before .before .test-rows in let at-strip-body = c .before .before .before .before in
+    let strip-body = at-strip-body .strip-body in let if1 = at-strip-body .before .if1 in
+    let offset-at = at-strip-body .before .before .offset-at in let a = at-strip-body .before .before .before .before .args in
     let body = bodyOf true (a .n) (now (a .room)) (a .b) (a .z) (a .k) in
-    unmade-stops (rowsOf body (a .h) (literals 0)) _ (ap (λ (l : List ℕ). madeOf (rowsOf l (a .h) (literals 0))) (sym (c .before .before .before .before .strip-body .ensures)) ∙ sym (c .before .before .before .test-rows .ensures) ∙ c .before .number .given .1)
-    ∙ sym (body-tested (a .n) (a .h) (now (a .room)) (a .b) (a .z) (a .k) (λ e. c .before .before .before .before .before .if1 .left (c .before .before .before .before .before .before .offset-at .ensures .0 ∙ e)))
+    unmade-stops (rowsOf body (a .h) (literals 0)) _ (ap (λ (l : List ℕ). madeOf (rowsOf l (a .h) (literals 0))) (sym (strip-body .ensures)) ∙ sym
+    (test-rows .ensures) ∙ c .before .number .given .1)
+    ∙ sym (body-tested (a .n) (a .h) (now (a .room)) (a .b) (a .z) (a .k) (λ e. if1 .left (offset-at .ensures .0 ∙ e)))
 
 pub test-rows-spec : {M : Type 1} → statement M
 test-rows-spec =
-    tie.close
-    (tie.spec offset-at-requires returns strip-body-requires (λ c κs. search needs) (λ c. search needs) (λ c. search needs) returns-2
+    tie.close (
+    tie.spec offset-at-requires returns strip-body-requires (λ c κs. search needs) (λ c. search needs) (λ c. search needs) returns-2
     returns-3)

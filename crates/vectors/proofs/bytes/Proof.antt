@@ -17,6 +17,6 @@ cast-print-hex c = omega (arith, c .before .before .before .shared-slice-known .
 
 pub bytes-spec : {M : Type 1} → statement M
 bytes-spec =
-    tie.close (tie.spec
-    Inv-loop μ-loop (λ c. omega arith) (λ c. omega arith) cast-print-hex (λ c κs. search needs) (λ c. omega arith) (λ c. omega arith)
-    (λ c. omega arith) (λ c. search needs) (λ c κs. search needs) (λ c. search needs))
+    tie.close (
+    tie.spec Inv-loop μ-loop (λ c. omega arith) (λ c. omega arith) cast-print-hex (λ c κs. search needs) (λ c. omega arith)
+    (λ c. omega arith) (λ c. omega arith) (λ c. search needs) (λ c κs. search needs) (λ c. search needs))

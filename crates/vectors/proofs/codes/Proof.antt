@@ -13,6 +13,6 @@ abbrev μ-loop : tie.MeasureT-loop
 
 pub codes-spec : {M : Type 1} → statement M
 codes-spec =
-    tie.close (tie.spec
-    Inv-loop μ-loop (λ c. omega arith) (λ c. search needs) (λ c. search needs) (λ c. search needs) (λ c κs. omega arith) (λ c. omega arith)
-    (λ c. omega arith) (λ c. omega arith) (λ c. search needs))
+    tie.close (
+    tie.spec Inv-loop μ-loop (λ c. omega arith) (λ c. search needs) (λ c. search needs) (λ c. search needs) (λ c κs. omega arith)
+    (λ c. omega arith) (λ c. omega arith) (λ c. omega arith) (λ c. search needs))

@@ -11,6 +11,6 @@ slice-aggregate-bytes c = sym (simp length-take (omega (arith, c .before .before
 
 pub pixels-spec : {M : Type 1} → statement M
 pixels-spec =
-    tie.close (tie.spec
-    (λ c. search needs) (λ c. search needs) (λ c κs. search needs) (λ c. search needs) (λ c. search needs) slice-aggregate-bytes
+    tie.close (
+    tie.spec (λ c. search needs) (λ c. search needs) (λ c κs. search needs) (λ c. search needs) (λ c. search needs) slice-aggregate-bytes
     (λ c κs. search needs) (λ c. search needs) (λ c κs. search needs) (λ c. search needs) (λ c. search needs))

@@ -54,5 +54,6 @@ returns-3 c = rw (le-leb 1 _ (c .before .before .if1 .left), le-leb _ _ (c .befo
 
 pub hidden-at-spec : {M : Type 1} → statement M
 hidden-at-spec =
-    tie.close (tie.spec
-    returns returns-2 mul-b add-b mul-b-2 add-b-2 shared-slice-read-b (λ c. search needs) (λ c. search needs) (λ c. search needs) returns-3)
+    tie.close (
+    tie.spec returns returns-2 mul-b add-b mul-b-2 add-b-2 shared-slice-read-b (λ c. search needs) (λ c. search needs) (λ c. search needs)
+    returns-3)

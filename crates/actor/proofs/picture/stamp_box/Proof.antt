@@ -36,7 +36,9 @@ mul-at : tie.Need-mul-at Inv-loop2 μ-loop2 Inv-loop μ-loop
 mul-at c = omega (arith, row-room _ _ _ _ _ _ _ _ (c .before .before .before .before .before .before .before .pre .0) (c .before .if1 .taken))
 
 add-at : tie.Need-add-at Inv-loop2 μ-loop2 Inv-loop μ-loop
-add-at c = omega (arith, row-room _ _ _ _ _ _ _ _ (c .before .before .before .before .before .before .before .before .pre .0) (c .before .before .if1 .taken))
+add-at c =
+    let if1 = c .before .before .if1 in let pre = c .before .before .before .before .before .before .before .before .pre in
+    omega (arith, row-room _ _ _ _ _ _ _ _ (pre .0) (if1 .taken))
 
 mul-from : tie.Need-mul-from Inv-loop2 μ-loop2 Inv-loop μ-loop
 mul-from c =
@@ -85,7 +87,8 @@ returns c =
 
 pub stamp-box-spec : {M : Type 1} → statement M
 stamp-box-spec =
-    tie.close (tie.spec
-    Inv-loop2 μ-loop2 Inv-loop μ-loop loop-holds (λ c. omega arith) mul-at add-at (λ c. omega arith) mul-from add-from-2 loop2-holds
-    (λ c. omega arith) (λ c. omega arith) (λ c. omega arith) (λ c. omega arith) (λ c. omega arith) (λ c κs. omega arith) (λ c. omega arith)
-    (λ c. omega arith) (λ c. omega arith) (λ c. omega arith) loop2-again (λ c. omega arith) (λ c. omega arith) loop-again (λ c. omega arith) returns)
+    tie.close (
+    tie.spec Inv-loop2 μ-loop2 Inv-loop μ-loop loop-holds (λ c. omega arith) mul-at add-at (λ c. omega arith) mul-from add-from-2
+    loop2-holds (λ c. omega arith) (λ c. omega arith) (λ c. omega arith) (λ c. omega arith) (λ c. omega arith) (λ c κs. omega arith)
+    (λ c. omega arith) (λ c. omega arith) (λ c. omega arith) (λ c. omega arith) loop2-again (λ c. omega arith) (λ c. omega arith) loop-again
+    (λ c. omega arith) returns)

@@ -42,5 +42,5 @@ returns-3 c =
 
 pub stamp-picture-spec : {M : Type 1} → statement M
 stamp-picture-spec =
-    tie.close (tie.spec
-    (λ c κs. search needs) (λ c κs. search needs) returns returns-2 (λ c κs. search needs) (λ c. search needs) returns-3)
+    tie.close (
+    tie.spec (λ c κs. search needs) (λ c κs. search needs) returns returns-2 (λ c κs. search needs) (λ c. search needs) returns-3)

@@ -57,4 +57,6 @@ returns-5 c =
     )
 
 pub hidden-number-spec : {M : Type 1} → statement M
-hidden-number-spec = tie.close (tie.spec (λ c κs. search needs) returns mask-bytes-requires returns-2 returns-3 returns-4 returns-5)
+hidden-number-spec =
+    tie.close (
+    tie.spec (λ c κs. search needs) returns mask-bytes-requires returns-2 returns-3 returns-4 returns-5)

@@ -35,4 +35,6 @@ returns-3 c =
     )
 
 pub stamp-number-spec : {M : Type 1} → statement M
-stamp-number-spec = tie.close (tie.spec (λ c κs. search needs) (λ c κs. search needs) returns buffers-fit-requires returns-2 returns-3)
+stamp-number-spec =
+    tie.close (
+    tie.spec (λ c κs. search needs) (λ c κs. search needs) returns buffers-fit-requires returns-2 returns-3)

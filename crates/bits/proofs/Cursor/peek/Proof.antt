@@ -6,11 +6,6 @@ use Rattle.bits.proofs.CursorLaws.{size-of, shows-low}
 use borrow.Author.Needs.{needs}
 use Rattle.bits.proofs.Cursor.peek.Statement.{statement}
 use Rattle.bits.proofs.Cursor.peek.Tie as tie
-use Rattle.bits.proofs.Cursor.peek.Reads as reads
-use Rattle.bits.proofs.Cursor.peek.Lts as lts
-
-shl-size : tie.Need-shl-size
-shl-size c = search needs
 
 rem-result : tie.Need-rem-result
 rem-result c = rw (size-of (c .before .args .n) (omega (arith, c .before .pre))) (pow-pos (c .before .args .n))
@@ -27,4 +22,4 @@ returns c = λ le.
     rw (size-of (a .n) (omega (arith, c .before .pre))) (shows-low (a .self) (a .n) le)
 
 pub peek-spec : {M : Type 1} → statement M
-peek-spec = tie.close (tie.spec shl-size rem-result cast-result returns)
+peek-spec = tie.close (tie.spec (λ c. search needs) rem-result cast-result returns)

@@ -7,34 +7,20 @@ use Rattle.bits.proofs.CursorLaws.{bits-byte, shift-exact, sum-fits, mo
 use borrow.Author.Needs.{needs}
 use Rattle.bits.proofs.Cursor.refill_byte.Statement.{statement}
 use Rattle.bits.proofs.Cursor.refill_byte.Tie as tie
-use Rattle.bits.proofs.Cursor.refill_byte.Reads as reads
-use Rattle.bits.proofs.Cursor.refill_byte.Lts as lts
-
-add-t4 : tie.Need-add-t4
-add-t4 c = search needs
-
-add-t5 : tie.Need-add-t5
-add-t5 c = search needs
-
-shared-slice-read-t7 : tie.Need-shared-slice-read-t7
-shared-slice-read-t7 c = search needs
 
 cast-t8 : tie.Need-cast-t8
 cast-t8 c = omega (arith, c .shared-slice-known .given (c .before .before .args .self .at))
 
-cast-t9 : tie.Need-cast-t9
-cast-t9 c = search needs
-
-shl-t10 : tie.Need-shl-t10
-shl-t10 c = search needs
-
 add-t11 : tie.Need-add-t11
 add-t11 c =
-    let s = now (c .before .before .before .before .args .body) in
-    let b = getD s (c .before .before .before .before .args .self .at) 0 in
-    let held = c .before .before .before .before .pre .0 in
-    let byte = c .before .before .shared-slice-known .given (c .before .before .before .before .args .self .at) .fits in
-    rw (shift-exact s (c .before .before .before .before .args .self) held (c .before .before .before .before .args .self .at + 1) 8 b (omega (arith, c .before .before .before .before .pre .1)) byte (omega (arith, c .before .before .before .before .pre .2))) (record { fits = sum-fits s (c .before .before .before .before .args .self) held (c .before .before .before .before .args .self .at + 1) 8 b (omega (arith, c .before .before .before .before .pre .1)) byte (omega (arith, c .before .before .before .before .pre .2)) })
+    let shared-slice-known = c .before .before .shared-slice-known in let start = c .before .before .before .before in
+    let args = start .args in let pre = start .pre in
+    let s = now (args .body) in
+    let b = getD s (args .self .at) 0 in
+    let held = pre .0 in
+    let byte = shared-slice-known .given (args .self .at) .fits in
+    rw (shift-exact s (args .self) held (args .self .at + 1) 8 b (omega (arith, pre .1)) byte (omega (arith, pre .2)))
+    (record { fits = sum-fits s (args .self) held (args .self .at + 1) 8 b (omega (arith, pre .1)) byte (omega (arith, pre .2)) })
 
 returns : tie.Need-returns
 returns c =
@@ -53,4 +39,5 @@ returns c =
 
 pub refill-byte-spec : {M : Type 1} → statement M
 refill-byte-spec =
-    tie.close (tie.spec add-t4 add-t5 shared-slice-read-t7 cast-t8 cast-t9 shl-t10 add-t11 returns)
+    tie.close (
+    tie.spec (λ c. search needs) (λ c. search needs) (λ c. search needs) cast-t8 (λ c. search needs) (λ c. search needs) add-t11 returns)

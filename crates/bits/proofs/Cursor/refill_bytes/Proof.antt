@@ -6,9 +6,6 @@ use Rattle.bits.specs.Reader.{Fetches}
 use Rattle.bits.proofs.CursorLaws.{fetches-on}
 use Rattle.bits.proofs.Cursor.refill_bytes.Statement.{statement}
 use Rattle.bits.proofs.Cursor.refill_bytes.Tie as tie
-use Rattle.bits.proofs.Cursor.refill_bytes.Reads as reads
-use Rattle.bits.proofs.Cursor.refill_bytes.Lts as lts
-use Rattle.bits.proofs.Cursor.refill_byte.Reads as refill-byte-reads
 
 abbrev Inv-loop : tie.InvT-loop
 Inv-loop body cur₀ cur = Fetches body cur₀ cur
@@ -36,5 +33,5 @@ returns-2 c = (c .before .before .loop .inv, λ h. omega arith)
 
 pub refill-bytes-spec : {M : Type 1} → statement M
 refill-bytes-spec =
-    tie.close
-    (tie.spec Inv-loop μ-loop loop-holds returns refill-byte-requires loop-less loop-again returns-2)
+    tie.close (
+    tie.spec Inv-loop μ-loop loop-holds returns refill-byte-requires loop-less loop-again returns-2)

@@ -10,55 +10,25 @@ use Rattle.bits.proofs.CursorLaws.{size-of, eight-front, shift-exact, s
 use borrow.Author.Needs.{needs}
 use Rattle.bits.proofs.Cursor.refill_word.Statement.{statement}
 use Rattle.bits.proofs.Cursor.refill_word.Tie as tie
-use Rattle.bits.proofs.Cursor.refill_word.Reads as reads
-use Rattle.bits.proofs.Cursor.refill_word.Lts as lts
-use Rattle.bits.proofs.eight.Reads as eight-reads
-
-sub-room : tie.Need-sub-room
-sub-room c = search needs
-
-mul-size : tie.Need-mul-size
-mul-size c = search needs
-
-cast-size : tie.Need-cast-size
-cast-size c = search needs
-
-shl-size : tie.Need-shl-size
-shl-size c = search needs
-
-eight-requires : tie.Need-eight-requires
-eight-requires c κs = search needs
 
 rem-taken : tie.Need-rem-taken
 rem-taken c = rw (size-of (8 * ((63 - c .before .before .args .self .bits) / 8)) (omega arith)) (pow-pos (8 * ((63 - c .before .before .args .self .bits) / 8)))
 
-cast-t10 : tie.Need-cast-t10
-cast-t10 c = search needs
-
-add-t11 : tie.Need-add-t11
-add-t11 c = search needs
-
-mul-t8 : tie.Need-mul-t8
-mul-t8 c = search needs
-
-add-t12 : tie.Need-add-t12
-add-t12 c = search needs
-
-cast-t9 : tie.Need-cast-t9
-cast-t9 c = search needs
-
-shl-t13 : tie.Need-shl-t13
-shl-t13 c = search needs
-
 add-t14 : tie.Need-add-t14
 add-t14 c =
-    let self = c .before .before .before .args .self in
-    let s = now (c .before .before .before .args .body) in
+    let start = c .before .before .before in let args = start .args in let pre = start .pre in
+    let self = args .self in
+    let s = now (args .body) in
     let n = (63 - self .bits) / 8 in
     let v = (wordAt s (self .at) + wordAt s (self .at + 4) * 4294967296) % 2 ^ (8 * n) in
     let low : v < 2 ^ (8 * n) = mod-lt _ (pow-pos (8 * n)) in
-    rw (c .before .eight .ensures, size-of (8 * n) (omega arith), shift-exact s self (c .before .before .before .pre .0) (self .at + n) (8 * n) v (omega (arith, c .before .before .before .pre .0 .few)) low (omega (arith, c .before .before .before .pre .1)))
-    (record { fits = sum-fits s self (c .before .before .before .pre .0) (self .at + n) (8 * n) v (omega (arith, c .before .before .before .pre .0 .few)) low (omega (arith, c .before .before .before .pre .1)) })
+    rw (
+      c .before .eight .ensures,
+      size-of (8 * n) (omega arith),
+      shift-exact s self (pre .0) (self .at + n) (8 * n) v (omega (arith, pre .0 .few)) low
+          (omega (arith, pre .1)),
+    )
+    (record { fits = sum-fits s self (pre .0) (self .at + n) (8 * n) v (omega (arith, pre .0 .few)) low (omega (arith, pre .1)) })
 
 returns : tie.Need-returns
 returns c =
@@ -79,19 +49,6 @@ returns c =
 
 pub refill-word-spec : {M : Type 1} → statement M
 refill-word-spec =
-    tie.close
-    (tie.spec
-    sub-room
-    mul-size
-    cast-size
-    shl-size
-    eight-requires
-    rem-taken
-    cast-t10
-    add-t11
-    mul-t8
-    add-t12
-    cast-t9
-    shl-t13
-    add-t14
-    returns)
+    tie.close (
+    tie.spec (λ c. search needs) (λ c. search needs) (λ c. search needs) (λ c. search needs) (λ c κs. search needs) rem-taken
+    (λ c. search needs) (λ c. search needs) (λ c. search needs) (λ c. search needs) (λ c. search needs) (λ c. search needs) add-t14 returns)

@@ -4,12 +4,6 @@ use Rattle.bits.proofs.ZeroLaws.{zeros-few, zeros-are, zeros-end}
 use borrow.Author.Needs.{needs}
 use Rattle.bits.proofs.Cursor.zeros.Statement.{statement}
 use Rattle.bits.proofs.Cursor.zeros.Tie as tie
-use Rattle.bits.proofs.Cursor.zeros.Reads as reads
-use Rattle.bits.proofs.Cursor.zeros.Lts as lts
-use Rattle.bits.proofs.Cursor.take.Reads as take-reads
-
-add-count : tie.Need-add-count
-add-count c = search needs
 
 take-requires : tie.Need-take-requires
 take-requires c κs = (omega (arith, zeros-few (c .before .args .self .hold), c .before .pre .0), c .before .pre .1)
@@ -25,4 +19,4 @@ returns c =
     )
 
 pub zeros-spec : {M : Type 1} → statement M
-zeros-spec = tie.close (tie.spec add-count take-requires returns)
+zeros-spec = tie.close (tie.spec (λ c. search needs) take-requires returns)

@@ -1,6 +1,6 @@
 use borrow.Author.Needs.{needs}
 use native.Mathlib.Omega.{arith}
-use mathlib.Core.Path.{_≡_, sym, ap, _∙_}
+use mathlib.Core.Path.{sym, ap, _∙_}
 use Prim.Native.Nat.{_-_}
 use denote.Ref.{now}
 use Rattle.climb.specs.Climb.{isOpen, lets}
@@ -26,7 +26,6 @@ is-open-at t = and 2 is-open-kinds.ps (is 2 is-open-kinds.ps μ-is-open t) is-op
 abbrev is-open-below : ℕ → In 2 is-open-kinds.ps
 is-open-below t = and 2 is-open-kinds.ps (falls 2 is-open-kinds.ps _<_ μ-is-open t) is-open.Pre
 
--- src/chain.rt:25:9
 is-open-returns : (t : ℕ) → is-open-lts.Need-returns (
   wide-u32-reads.Asked,
   wide-u32-reads.Learnt,
@@ -37,7 +36,6 @@ is-open-returns : (t : ℕ) → is-open-lts.Need-returns (
 ) (is-open-at t) is-open.Post
 is-open-returns t c = climb-out _ _ _ _ (c .if1 .taken)
 
--- src/chain.rt:27:29
 is-open-mul-wide-u32 : (t : ℕ) → is-open-lts.Need-mul-wide-u32 (
   wide-u32-reads.Asked,
   wide-u32-reads.Learnt,
@@ -48,7 +46,6 @@ is-open-mul-wide-u32 : (t : ℕ) → is-open-lts.Need-mul-wide-u32 (
 ) (is-open-at t) is-open.Post
 is-open-mul-wide-u32 t c = search needs
 
--- src/chain.rt:27:29
 is-open-add-wide-u32 : (t : ℕ) → is-open-lts.Need-add-wide-u32 (
   wide-u32-reads.Asked,
   wide-u32-reads.Learnt,
@@ -59,7 +56,6 @@ is-open-add-wide-u32 : (t : ℕ) → is-open-lts.Need-add-wide-u32 (
 ) (is-open-at t) is-open.Post
 is-open-add-wide-u32 t c = search needs
 
--- src/chain.rt:27:23
 is-open-mul-wide-u32-2 : (t : ℕ) → is-open-lts.Need-mul-wide-u32-2 (
   wide-u32-reads.Asked,
   wide-u32-reads.Learnt,
@@ -70,7 +66,6 @@ is-open-mul-wide-u32-2 : (t : ℕ) → is-open-lts.Need-mul-wide-u32-2 (
 ) (is-open-at t) is-open.Post
 is-open-mul-wide-u32-2 t c = search needs
 
--- src/chain.rt:27:23
 is-open-shared-slice-read-wide-u32 : (t : ℕ) → is-open-lts.Need-shared-slice-read-wide-u32 (
   wide-u32-reads.Asked,
   wide-u32-reads.Learnt,
@@ -81,7 +76,6 @@ is-open-shared-slice-read-wide-u32 : (t : ℕ) → is-open-lts.Need-shared-slice
 ) (is-open-at t) is-open.Post
 is-open-shared-slice-read-wide-u32 t c = search needs
 
--- src/chain.rt:27:9
 is-open-wide-u32-requires : (t : ℕ) → is-open-lts.Need-wide-u32-requires (
   wide-u32-reads.Asked,
   wide-u32-reads.Learnt,
@@ -92,7 +86,6 @@ is-open-wide-u32-requires : (t : ℕ) → is-open-lts.Need-wide-u32-requires (
 ) (is-open-at t) is-open.Post
 is-open-wide-u32-requires t c κs = search needs
 
--- src/chain.rt:29:9
 is-open-returns-2 : (t : ℕ) → is-open-lts.Need-returns-2 (
   wide-u32-reads.Asked,
   wide-u32-reads.Learnt,
@@ -103,7 +96,6 @@ is-open-returns-2 : (t : ℕ) → is-open-lts.Need-returns-2 (
 ) (is-open-at t) is-open.Post
 is-open-returns-2 t c = climb-top _ _ _ _ (c .before .before .before .if1 .left) (sym (c .before .wide-u32 .ensures .0) ∙ c .if2 .taken)
 
--- src/chain.rt:32:9
 is-open-returns-3 : (t : ℕ) → is-open-lts.Need-returns-3 (
   wide-u32-reads.Asked,
   wide-u32-reads.Learnt,
@@ -112,9 +104,10 @@ is-open-returns-3 : (t : ℕ) → is-open-lts.Need-returns-3 (
   is-open-below t,
   is-open.Post,
 ) (is-open-at t) is-open.Post
-is-open-returns-3 t c = climb-gone _ _ _ _ (c .before .before .before .before .if1 .left) (λ e. c .before .if2 .left (c .before .before .wide-u32 .ensures .0 ∙ e)) (omega (arith, c .before .before .wide-u32 .ensures .0))
+is-open-returns-3 t c =
+    let wide-u32 = c .before .before .wide-u32 in let if1 = c .before .before .before .before .if1 in
+    climb-gone _ _ _ _ (if1 .left) (λ e. c .before .if2 .left (wide-u32 .ensures .0 ∙ e)) (omega (arith, wide-u32 .ensures .0))
 
--- src/chain.rt:34:19
 is-open-mul-lets : (t : ℕ) → is-open-lts.Need-mul-lets (
   wide-u32-reads.Asked,
   wide-u32-reads.Learnt,
@@ -125,7 +118,6 @@ is-open-mul-lets : (t : ℕ) → is-open-lts.Need-mul-lets (
 ) (is-open-at t) is-open.Post
 is-open-mul-lets t c = search needs
 
--- src/chain.rt:34:19
 is-open-add-lets : (t : ℕ) → is-open-lts.Need-add-lets (
   wide-u32-reads.Asked,
   wide-u32-reads.Learnt,
@@ -136,7 +128,6 @@ is-open-add-lets : (t : ℕ) → is-open-lts.Need-add-lets (
 ) (is-open-at t) is-open.Post
 is-open-add-lets t c = search needs
 
--- src/chain.rt:34:13
 is-open-mul-lets-2 : (t : ℕ) → is-open-lts.Need-mul-lets-2 (
   wide-u32-reads.Asked,
   wide-u32-reads.Learnt,
@@ -147,7 +138,6 @@ is-open-mul-lets-2 : (t : ℕ) → is-open-lts.Need-mul-lets-2 (
 ) (is-open-at t) is-open.Post
 is-open-mul-lets-2 t c = search needs
 
--- src/chain.rt:34:13
 is-open-shared-slice-read-lets : (t : ℕ) → is-open-lts.Need-shared-slice-read-lets (
   wide-u32-reads.Asked,
   wide-u32-reads.Learnt,
@@ -158,7 +148,6 @@ is-open-shared-slice-read-lets : (t : ℕ) → is-open-lts.Need-shared-slice-rea
 ) (is-open-at t) is-open.Post
 is-open-shared-slice-read-lets t c = search needs
 
--- src/chain.rt:34:31
 is-open-mul-lets-3 : (t : ℕ) → is-open-lts.Need-mul-lets-3 (
   wide-u32-reads.Asked,
   wide-u32-reads.Learnt,
@@ -169,7 +158,6 @@ is-open-mul-lets-3 : (t : ℕ) → is-open-lts.Need-mul-lets-3 (
 ) (is-open-at t) is-open.Post
 is-open-mul-lets-3 t c = search needs
 
--- src/chain.rt:34:31
 is-open-shared-slice-read-lets-2 : (t : ℕ) → is-open-lts.Need-shared-slice-read-lets-2 (
   wide-u32-reads.Asked,
   wide-u32-reads.Learnt,
@@ -180,7 +168,6 @@ is-open-shared-slice-read-lets-2 : (t : ℕ) → is-open-lts.Need-shared-slice-r
 ) (is-open-at t) is-open.Post
 is-open-shared-slice-read-lets-2 t c = search needs
 
--- src/chain.rt:34:8
 is-open-lets-requires : (t : ℕ) → is-open-lts.Need-lets-requires (
   wide-u32-reads.Asked,
   wide-u32-reads.Learnt,
@@ -191,7 +178,6 @@ is-open-lets-requires : (t : ℕ) → is-open-lts.Need-lets-requires (
 ) (is-open-at t) is-open.Post
 is-open-lets-requires t c κs = search needs
 
--- src/chain.rt:35:46
 is-open-sub-is-open : (t : ℕ) → is-open-lts.Need-sub-is-open (
   wide-u32-reads.Asked,
   wide-u32-reads.Learnt,
@@ -202,7 +188,6 @@ is-open-sub-is-open : (t : ℕ) → is-open-lts.Need-sub-is-open (
 ) (is-open-at t) is-open.Post
 is-open-sub-is-open t c = search needs
 
--- src/chain.rt:35:9
 is-open-is-open-requires : (t : ℕ) → is-open-lts.Need-is-open-requires (
   wide-u32-reads.Asked,
   wide-u32-reads.Learnt,
@@ -213,7 +198,6 @@ is-open-is-open-requires : (t : ℕ) → is-open-lts.Need-is-open-requires (
 ) (is-open-at t) is-open.Post
 is-open-is-open-requires t c κs = search needs
 
--- src/chain.rt:35:9
 is-open-returns-4 : (t : ℕ) → is-open-lts.Need-returns-4 (
   wide-u32-reads.Asked,
   wide-u32-reads.Learnt,
@@ -223,15 +207,16 @@ is-open-returns-4 : (t : ℕ) → is-open-lts.Need-returns-4 (
   is-open.Post,
 ) (is-open-at t) is-open.Post
 is-open-returns-4 t c =
-    let a = c .before .before .before .before .before .before .before .before .before .before .before .before .args in
+    let lets′ = c .before .before .lets in let at-if2 = c .before .before .before .before .before .before in let if2 = at-if2 .if2 in
+    let wide-u32 = at-if2 .before .wide-u32 in let if1 = at-if2 .before .before .before .if1 in
+    let a = at-if2 .before .before .before .before .before .before .args in
     let obs = boxesOf (now (a .boxes)) (a .count) in
     let state = stateIn (now (a .states)) in
-    let w = c .before .before .before .before .before .before .before .wide-u32 .ensures .0 in
+    let w = wide-u32 .ensures .0 in
     c .is-open .ensures ∙ ap (isOpen obs state (a .links - 1)) w
-    ∙ climb-on obs state (a .links) (a .o) (c .before .before .before .before .before .before .before .before .before .if1 .left) (λ e. c .before .before .before .before .before .before .if2 .left (w ∙ e)) (omega (arith, w)) _
-    (c .before .before .lets .ensures ∙ ap (λ (k : ℕ). lets (obs .flags (a .o)) (state k)) w) (c .before .if4 .taken)
+    ∙ climb-on obs state (a .links) (a .o) (if1 .left) (λ e. if2 .left (w ∙ e)) (omega (arith, w)) _
+    (lets′ .ensures ∙ ap (λ (k : ℕ). lets (obs .flags (a .o)) (state k)) w) (c .before .if4 .taken)
 
--- src/chain.rt:20:1
 is-open-returns-5 : (t : ℕ) → is-open-lts.Need-returns-5 (
   wide-u32-reads.Asked,
   wide-u32-reads.Learnt,
@@ -241,11 +226,12 @@ is-open-returns-5 : (t : ℕ) → is-open-lts.Need-returns-5 (
   is-open.Post,
 ) (is-open-at t) is-open.Post
 is-open-returns-5 t c =
-    let a = c .before .before .before .before .before .before .before .before .before .before .before .args in
+    let at-if2 = c .before .before .before .before .before in let if2 = at-if2 .if2 in let wide-u32 = at-if2 .before .wide-u32 in
+    let if1 = at-if2 .before .before .before .if1 in let a = at-if2 .before .before .before .before .before .before .args in
     let obs = boxesOf (now (a .boxes)) (a .count) in
     let state = stateIn (now (a .states)) in
-    let w = c .before .before .before .before .before .before .wide-u32 .ensures .0 in
-    climb-shut obs state (a .links) (a .o) (c .before .before .before .before .before .before .before .before .if1 .left) (λ e. c .before .before .before .before .before .if2 .left (w ∙ e)) (omega (arith, w)) _
+    let w = wide-u32 .ensures .0 in
+    climb-shut obs state (a .links) (a .o) (if1 .left) (λ e. if2 .left (w ∙ e)) (omega (arith, w)) _
     (c .before .lets .ensures ∙ ap (λ (k : ℕ). lets (obs .flags (a .o)) (state k)) w) (c .if4 .left)
 
 pub +is-open-spec : {M : Type 1} → statement M

@@ -1,14 +1,10 @@
 use Rattle.climb.proofs.ClimbLaws.{lets-set, lets-clear}
 use Rattle.climb.proofs.chain.lets.Statement.{statement}
 use Rattle.climb.proofs.chain.lets.Tie as tie
-use Rattle.climb.proofs.chain.lets.Reads as reads
-use Rattle.climb.proofs.chain.lets.Lts as lts
 
--- src/chain.rt:14:9
 returns : tie.Need-returns
 returns c = lets-set _ _ (c .if1 .taken)
 
--- src/chain.rt:10:1
 returns-2 : tie.Need-returns-2
 returns-2 c = lets-clear _ _ (c .if1 .left)
 

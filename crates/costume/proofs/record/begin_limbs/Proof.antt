@@ -54,6 +54,7 @@ returns c =
 
 pub begin-limbs-spec : {M : Type 1} → statement M
 begin-limbs-spec =
-    tie.close (tie.spec
-    Inv-loop μ-loop (λ c κs. omega arith) (λ c. omega arith) loop-holds (λ c κs. omega arith) (λ c κs. omega arith) (λ c κs. search needs)
-    (λ c κs. omega arith) (λ c κs. search needs) (λ c. omega arith) (λ c. omega arith) (λ c. omega arith) loop-again same-length returns)
+    tie.close (
+    tie.spec Inv-loop μ-loop (λ c κs. omega arith) (λ c. omega arith) loop-holds (λ c κs. omega arith) (λ c κs. omega arith)
+    (λ c κs. search needs) (λ c κs. omega arith) (λ c κs. search needs) (λ c. omega arith) (λ c. omega arith) (λ c. omega arith) loop-again
+    same-length returns)

@@ -48,6 +48,6 @@ returns-5 c =
 
 pub entry-at-spec : {M : Type 1} → statement M
 entry-at-spec =
-    tie.close (tie.spec
-    (λ c. search needs) (λ c. search needs) returns (λ c. search needs) returns-2 (λ c κs. search needs) returns-3 (λ c. search needs) returns-4
-    (λ c. search needs) (λ c. search needs) (λ c. search needs) returns-5)
+    tie.close (
+    tie.spec (λ c. search needs) (λ c. search needs) returns (λ c. search needs) returns-2 (λ c κs. search needs) returns-3
+    (λ c. search needs) returns-4 (λ c. search needs) (λ c. search needs) (λ c. search needs) returns-5)

@@ -8,6 +8,6 @@ returns-4 c = rw (c .before .before .before .entry .given .1, ← c .before .wid
 
 pub entry-right-spec : {M : Type 1} → statement M
 entry-right-spec =
-    tie.close (tie.spec
-    (λ c. search needs) (λ c. search needs) (λ c. search needs) (λ c. search needs) (λ c κs. search needs) (λ c κs. search needs) (λ c. search needs)
-    (λ c. search needs) (λ c. search needs) returns-4)
+    tie.close (
+    tie.spec (λ c. search needs) (λ c. search needs) (λ c. search needs) (λ c. search needs) (λ c κs. search needs) (λ c κs. search needs)
+    (λ c. search needs) (λ c. search needs) (λ c. search needs) returns-4)

@@ -62,6 +62,6 @@ returns-3 c =
 
 pub record-right-spec : {M : Type 1} → statement M
 record-right-spec =
-    tie.close (tie.spec
-    Inv-loop μ-loop (λ c. omega arith) returns (λ c κs. omega arith) (λ c. omega arith) loop-holds (λ c κs. omega arith) (λ c κs. search needs)
-    returns-2 (λ c κs. search needs) (λ c. omega arith) (λ c. omega arith) (λ c. omega arith) loop-again returns-3)
+    tie.close (
+    tie.spec Inv-loop μ-loop (λ c. omega arith) returns (λ c κs. omega arith) (λ c. omega arith) loop-holds (λ c κs. omega arith)
+    (λ c κs. search needs) returns-2 (λ c κs. search needs) (λ c. omega arith) (λ c. omega arith) (λ c. omega arith) loop-again returns-3)

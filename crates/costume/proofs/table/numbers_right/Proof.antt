@@ -18,5 +18,5 @@ returns-4 c = numbers-table _ _ _ _ _ (c .before .before .if1 .left) (c .before 
 
 pub numbers-right-spec : {M : Type 1} → statement M
 numbers-right-spec =
-    tie.close (tie.spec
-    returns returns-2 (λ c. search needs) (λ c. search needs) returns-3 (λ c. search needs) (λ c. search needs) returns-4)
+    tie.close (
+    tie.spec returns returns-2 (λ c. search needs) (λ c. search needs) returns-3 (λ c. search needs) (λ c. search needs) returns-4)

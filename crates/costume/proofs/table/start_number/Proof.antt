@@ -93,6 +93,6 @@ returns-6 c =
 
 pub start-number-spec : {M : Type 1} → statement M
 start-number-spec =
-    tie.close (tie.spec
-    returns (λ c κs. search needs) returns-2 (λ c κs. search needs) returns-3 sub-n sub-n-2 (λ c κs. search needs) returns-4 offset-at-requires
-    (λ c κs. search needs) returns-5 returns-6)
+    tie.close (
+    tie.spec returns (λ c κs. search needs) returns-2 (λ c κs. search needs) returns-3 sub-n sub-n-2 (λ c κs. search needs) returns-4
+    offset-at-requires (λ c κs. search needs) returns-5 returns-6)

@@ -13,10 +13,6 @@ use mathlib.Core.Bool.{Bool}
 use mathlib.Core.Path.{_≡_, refl, sym, ap, _∙_}
 use Rattle.decode.proofs.painting.paint_bits.Statement.{statement}
 use Rattle.decode.proofs.painting.paint_bits.Tie as tie
-use Rattle.decode.proofs.painting.paint_bits.Reads as reads
-use Rattle.decode.proofs.painting.paint_bits.Lts as lts
-use Rattle.bits.proofs.Cursor.new.Reads as new-reads
-use Rattle.decode.proofs.painting.turn.Reads as turn-reads
 
 abbrev Inv-loop : tie.InvT-loop
 Inv-loop body second w total out₀ first st₀ out st =
@@ -37,74 +33,68 @@ new-requires c κs = tt
 
 loop-holds : tie.Need-loop-holds Inv-loop μ-loop
 loop-holds c =
-    let a = c .before .before .before .before .args in
+    let start = c .before .before .before .before in let a = start .args in let pre = start .pre in
     let s = now (a .body) in
     let e = c .new .ensures in
     let first = getD s 1 0 in (
-      c .before .before .before .before .pre .1,
+      pre .1,
       refl,
-      e .held s (c .before .before .before .before .pre .3),
-      paint-start (a .second) (a .w) (a .total) first (bitsOf (drop 2 s)) (now (a .out)) (c .before .before .before .before .pre .1) (omega (arith, c .before .before .before .before .pre .1, c .before .before .before .before .pre .4))
+      e .held s (pre .3),
+      paint-start (a .second) (a .w) (a .total) first (bitsOf (drop 2 s)) (now (a .out)) (pre .1) (omega (arith, pre .1, pre .4))
           ∙ ap (λ (l : List Bool). prepend (take 1 (set (now (a .out)) 0 first)) (decode (a .second) (a .w) (a .total - 1) 0 first 1 l)) (sym (e .all s)),
     )
 
 turn-requires : tie.Need-turn-requires Inv-loop μ-loop
 turn-requires c κs =
-    let size = c .before .before .before .loop .inv .1 ∙ length-set (now (c .before .before .before .before .before .before .before .before .args .out)) 0 (getD (now (c .before .before .before .before .before .before .before .before .args .body)) 1 0) in
-    (c .before .before .before .before .before .before .before .before .pre .0, c .before .before .before .loop .inv .2, c .before .if1 .taken, c .before .before .before .before .before .before .before .before .pre .2, omega (arith, size, c .before .before .before .before .before .before .before .before .pre .4))
-
-enum-known-to : tie.Need-enum-known-to Inv-loop μ-loop
-enum-known-to c = search needs
+    let loop = c .before .before .before .loop in let start = c .before .before .before .before .before .before .before .before in
+    let args = start .args in let pre = start .pre in
+    let size = loop .inv .1 ∙ length-set (now (args .out)) 0 (getD (now (args .body)) 1 0) in
+    (pre .0, loop .inv .2, c .before .if1 .taken, pre .2, omega (arith, size, pre .4))
 
 loop-less : tie.Need-loop-less Inv-loop μ-loop
 loop-less c =
-    let a = c .before .before .before .before .before .before .before .before .before .before .before .before .before .before .args in
-    let e = turned-as (a .second) (a .w) (a .total) (now (a .body)) (c .before .before .before .before .before .before .before .before .before .loop .st) (c .before .before .before .before .before .before .before .before .before .loop .out) _ (c .before .to .given .1) (c .before .before .before .before .before .turn .ensures) in
+    let at-turn = c .before .before .before .before .before in let turn = at-turn .turn in
+    let at-loop = at-turn .before .before .before .before in let loop = at-loop .loop in
+    let a = at-loop .before .before .before .before .before .args in
+    let e = turned-as (a .second) (a .w) (a .total) (now (a .body)) (loop .st) (loop .out) _ (c .before .to .given .1) (turn .ensures) in
     omega (arith, e .0, e .1)
 
 loop-again : tie.Need-loop-again Inv-loop μ-loop
 loop-again c =
-    let a = c .before .before .before .before .before .before .before .before .before .before .before .before .before .before .args in
-    let e = turned-as (a .second) (a .w) (a .total) (now (a .body)) (c .before .before .before .before .before .before .before .before .before .loop .st) (c .before .before .before .before .before .before .before .before .before .loop .out) _ (c .before .to .given .1) (c .before .before .before .before .before .turn .ensures) in
-    (e .1, c .before .before .before .before .before .turn .kept .1 .1 .1 .1 .1 .0 ∙ c .before .before .before .before .before .before .before .before .before .loop .inv .1, e .2, e .3 .on _ (c .before .before .before .before .before .before .before .before .before .loop .inv .3))
-
-enum-known-n : tie.Need-enum-known-n Inv-loop μ-loop
-enum-known-n c = search needs
+    let at-turn = c .before .before .before .before .before in let turn = at-turn .turn in
+    let at-loop = at-turn .before .before .before .before in let loop = at-loop .loop in
+    let a = at-loop .before .before .before .before .before .args in
+    let e = turned-as (a .second) (a .w) (a .total) (now (a .body)) (loop .st) (loop .out) _ (c .before .to .given .1) (turn .ensures) in
+    (e .1, turn .kept .1 .1 .1 .1 .1 .0 ∙ loop .inv .1, e .2, e .3 .on _ (loop .inv .3))
 
 same-length : tie.Need-same-length Inv-loop μ-loop
-same-length c = c .before .before .before .before .before .turn .kept .1 .1 .1 .1 .1 .0 ∙ c .before .before .before .before .before .before .before .before .before .loop .inv .1 ∙ length-set (now (c .before .before .before .before .before .before .before .before .before .before .before .before .before .before .args .out)) 0 (getD (now (c .before .before .before .before .before .before .before .before .before .before .before .before .before .before .args .body)) 1 0)
+same-length c =
+    let at-turn = c .before .before .before .before .before in let turn = at-turn .turn in
+    let at-loop = at-turn .before .before .before .before in let loop = at-loop .loop in
+    let args = at-loop .before .before .before .before .before .args in
+    turn .kept .1 .1 .1 .1 .1 .0 ∙ loop .inv .1 ∙ length-set (now (args .out)) 0 (getD (now (args .body)) 1 0)
 
 returns : tie.Need-returns Inv-loop μ-loop
 returns c =
-    let a = c .before .before .before .before .before .before .before .before .before .before .before .before .before .before .args in
+    let at-turn = c .before .before .before .before .before in let turn = at-turn .turn in
+    let at-loop = at-turn .before .before .before .before in let loop = at-loop .loop in
+    let a = at-loop .before .before .before .before .before .args in
     let s = now (a .body) in
-    let e = turned-as (a .second) (a .w) (a .total) s (c .before .before .before .before .before .before .before .before .before .loop .st) (c .before .before .before .before .before .before .before .before .before .loop .out) _ (c .before .n .given .1) (c .before .before .before .before .before .turn .ensures) in
-    paint-no (a .second) (a .w) (a .total) s _ (c .before .before .before .before .before .before .before .before .before .loop .out) (c .before .before .before .before .before .before .before .before .before .loop .st) (c .before .before .before .before .before .before .before .before .before .loop .inv .3) _ e
+    let e = turned-as (a .second) (a .w) (a .total) s (loop .st) (loop .out) _ (c .before .n .given .1) (turn .ensures) in
+    paint-no (a .second) (a .w) (a .total) s _ (loop .out) (loop .st) (loop .inv .3) _ e
 
 same-length-2 : tie.Need-same-length-2 Inv-loop μ-loop
-same-length-2 c = c .before .before .loop .inv .1 ∙ length-set (now (c .before .before .before .before .before .before .before .args .out)) 0 (getD (now (c .before .before .before .before .before .before .before .args .body)) 1 0)
+same-length-2 c =
+    let loop = c .before .before .loop in let args = c .before .before .before .before .before .before .before .args in
+    loop .inv .1 ∙ length-set (now (args .out)) 0 (getD (now (args .body)) 1 0)
 
 returns-2 : tie.Need-returns-2 Inv-loop μ-loop
 returns-2 c =
-    let a = c .before .before .before .before .before .before .before .args in
-    paint-end (a .second) (a .w) (a .total) (now (a .body)) _ (c .before .before .loop .out) (c .before .before .loop .st) (c .before .before .loop .inv .3) (le-antisymm (c .before .before .loop .inv .0) (c .if1 .left))
+    let loop = c .before .before .loop in let a = c .before .before .before .before .before .before .before .args in
+    paint-end (a .second) (a .w) (a .total) (now (a .body)) _ (loop .out) (loop .st) (loop .inv .3) (le-antisymm (loop .inv .0) (c .if1 .left))
 
 pub paint-bits-spec : {M : Type 1} → statement M
 paint-bits-spec =
-    tie.close
-    (tie.spec
-    Inv-loop
-    μ-loop
-    shared-slice-read-first
-    slice-write-out
-    new-requires
-    loop-holds
-    turn-requires
-    enum-known-to
-    loop-less
-    loop-again
-    enum-known-n
-    same-length
-    returns
-    same-length-2
-    returns-2)
+    tie.close (
+    tie.spec Inv-loop μ-loop shared-slice-read-first slice-write-out new-requires loop-holds turn-requires (λ c. search needs) loop-less
+    loop-again (λ c. search needs) same-length returns same-length-2 returns-2)

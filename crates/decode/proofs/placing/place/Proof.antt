@@ -6,23 +6,11 @@ use Rattle.strip.specs.Picture.{placed, over}
 use Rattle.decode.proofs.placing.place.Statement.{statement}
 use Rattle.decode.proofs.placing.place.Tie as tie
 
-columns-requires : tie.Need-columns-requires
-columns-requires c κs = search needs
-
-rows-requires : tie.Need-rows-requires
-rows-requires c κs = search needs
-
-same-length : tie.Need-same-length
-same-length c = search needs
-
 returns : tie.Need-returns
 returns c =
     let a = c .before .before .before .before .before .before .before .args in
     c .before .before .columns .ensures
     ∙ ap (λ (v : Bool). over (placed v (a .h) (now (a .src))) (now (a .out))) (sym (c .before .before .before .before .if1 .taken))
-
-same-length-2 : tie.Need-same-length-2
-same-length-2 c = search needs
 
 returns-2 : tie.Need-returns-2
 returns-2 c =
@@ -31,4 +19,6 @@ returns-2 c =
     ∙ ap (λ (v : Bool). over (placed v (a .h) (now (a .src))) (now (a .out))) (sym (c .before .before .before .before .if1 .left))
 
 pub place-spec : {M : Type 1} → statement M
-place-spec = tie.close (tie.spec columns-requires rows-requires same-length returns same-length-2 returns-2)
+place-spec =
+    tie.close (
+    tie.spec (λ c κs. search needs) (λ c κs. search needs) (λ c. search needs) returns (λ c. search needs) returns-2)

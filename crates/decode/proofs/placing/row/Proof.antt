@@ -22,9 +22,6 @@ Inv-loop src h y out₀ base c₀ at₀ out c at =
 abbrev μ-loop : tie.MeasureT-loop
 μ-loop src h y out₀ base c₀ at₀ out c at = 8 - c
 
-mul-base : tie.Need-mul-base Inv-loop μ-loop
-mul-base c = omega arith
-
 loop-holds : tie.Need-loop-holds Inv-loop μ-loop
 loop-holds c =
     let none : 8 * c .args .y + 0 ≡ 8 * c .args .y = omega arith in
@@ -36,9 +33,6 @@ shared-slice-read-out c =
     let l = c .before .before .loop in
     omega (arith, l .inv .1, column-below (a .h) (a .y) (l .c) (c .before .loop-test .taken) (c .before .before .before .pre .0 .1))
 
-add-out : tie.Need-add-out Inv-loop μ-loop
-add-out c = omega arith
-
 slice-write-out : tie.Need-slice-write-out Inv-loop μ-loop
 slice-write-out c = omega (arith, c .before .before .loop .inv .2)
 
@@ -47,12 +41,6 @@ add-at c =
     let a = c .before .before .before .args in
     let l = c .before .before .loop in
     omega (arith, l .inv .1, column-below (a .h) (a .y) (l .c) (c .before .loop-test .taken) (c .before .before .before .pre .0 .1))
-
-add-c : tie.Need-add-c Inv-loop μ-loop
-add-c c = omega arith
-
-loop-less : tie.Need-loop-less Inv-loop μ-loop
-loop-less c = omega arith
 
 loop-again : tie.Need-loop-again Inv-loop μ-loop
 loop-again c =
@@ -80,18 +68,6 @@ returns c =
 
 pub row-spec : {M : Type 1} → statement M
 row-spec =
-    tie.close
-    (tie.spec
-    Inv-loop
-    μ-loop
-    mul-base
-    loop-holds
-    shared-slice-read-out
-    add-out
-    slice-write-out
-    add-at
-    add-c
-    loop-less
-    loop-again
-    same-length
-    returns)
+    tie.close (
+    tie.spec Inv-loop μ-loop (λ c. omega arith) loop-holds shared-slice-read-out (λ c. omega arith) slice-write-out add-at
+    (λ c. omega arith) (λ c. omega arith) loop-again same-length returns)

@@ -7,18 +7,6 @@ use Rattle.strip.proofs.PictureLaws.{take-upTo, placed-over}
 use borrow.Author.Needs.{needs}
 use Rattle.decode.proofs.placing.rows.Statement.{statement}
 use Rattle.decode.proofs.placing.rows.Tie as tie
-use Rattle.decode.proofs.placing.rows.Reads as reads
-use Rattle.decode.proofs.placing.rows.Lts as lts
-use Rattle.number.proofs.buffer.copy.Reads as copy-reads
-
-mul-copy : tie.Need-mul-copy
-mul-copy c = search needs
-
-copy-requires : tie.Need-copy-requires
-copy-requires c κs = search needs
-
-same-length : tie.Need-same-length
-same-length c = search needs
 
 returns : tie.Need-returns
 returns c =
@@ -29,4 +17,4 @@ returns c =
     (rw z at (e .0) ∙ take-upTo (a .h) (now (a .src)) (8 * a .h) (c .before .before .before .before .before .before .pre .0)) (rw z at (e .1))
 
 pub rows-spec : {M : Type 1} → statement M
-rows-spec = tie.close (tie.spec mul-copy copy-requires same-length returns)
+rows-spec = tie.close (tie.spec (λ c. search needs) (λ c κs. search needs) (λ c. search needs) returns)

@@ -5,10 +5,7 @@ use mathlib.Core.Bool.{false}
 use mathlib.Core.Path.{refl}
 use Rattle.decode.proofs.rows.first_rows.Statement.{statement}
 use Rattle.decode.proofs.rows.first_rows.Tie as tie
-use Rattle.decode.proofs.rows.first_rows.Reads as reads
-use Rattle.decode.proofs.rows.first_rows.Lts as lts
 
--- src/rows.rt:527:1
 returns : tie.Need-returns
 unfolding rightRows fitRows wholeOps lowBits
 returns c = rows-right false _ refl refl

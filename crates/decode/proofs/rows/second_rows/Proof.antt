@@ -5,10 +5,7 @@ use mathlib.Core.Bool.{true}
 use mathlib.Core.Path.{refl}
 use Rattle.decode.proofs.rows.second_rows.Statement.{statement}
 use Rattle.decode.proofs.rows.second_rows.Tie as tie
-use Rattle.decode.proofs.rows.second_rows.Reads as reads
-use Rattle.decode.proofs.rows.second_rows.Lts as lts
 
--- src/rows.rt:533:1
 returns : tie.Need-returns
 unfolding rightRows fitRows wholeOps lowBits
 returns c = rows-right true _ refl refl

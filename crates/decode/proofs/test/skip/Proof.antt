@@ -10,14 +10,6 @@ use Prim.Native.Nat.{ℕ, _+_, _*_, _/_, _%_, _<_}
 use borrow.Author.Needs.{needs}
 use Rattle.decode.proofs.test.skip.Statement.{statement}
 use Rattle.decode.proofs.test.skip.Tie as tie
-use Rattle.decode.proofs.test.skip.Reads as reads
-use Rattle.decode.proofs.test.skip.Lts as lts
-use Rattle.bits.proofs.Cursor.take.Reads as take-reads
-use Rattle.decode.proofs.test.reach_of.Reads as reach-of-reads
-use Rattle.number.proofs.wide_u16.Reads as wide-u16-reads
-
-take-requires : tie.Need-take-requires
-take-requires c κs = search needs
 
 mul-wide-u16 : tie.Need-mul-wide-u16
 mul-wide-u16 c =
@@ -30,9 +22,6 @@ shared-slice-read-wide-u16 c =
     let few : seen .result .value < 256 = hands-small (seen .ensures) in
     omega (arith, few, c .before .before .before .before .pre .0)
 
-wide-u16-requires : tie.Need-wide-u16-requires
-wide-u16-requires c κs = search needs
-
 reach-of-requires : tie.Need-reach-of-requires
 reach-of-requires c κs =
     let seen = c .before .before .take in
@@ -40,26 +29,21 @@ reach-of-requires c κs =
     let small = c .before .before .before .before .before .pre .1 (seen .result .value) few in
     rw (c .wide-u16 .ensures .0) (small .0, small .2, c .before .before .before .before .before .pre .2)
 
-take-requires-2 : tie.Need-take-requires-2
-take-requires-2 c κs = search needs
-
-add-t13 : tie.Need-add-t13
-add-t13 c = search needs
-
 returns : tie.Need-returns
 returns c =
-    let a = c .before .before .before .before .before .before .before .before .before .args in
+    let taken = c .before .before .take2 in let reach-of = c .before .before .before .reach-of in
+    let at-wide-u16 = c .before .before .before .before in let wide-u16 = at-wide-u16 .wide-u16 in
+    let seen = at-wide-u16 .before .before .take in let start = at-wide-u16 .before .before .before .before .before in
+    let a = start .args in let pre = start .pre in
     let st = a .st in
-    let seen = c .before .before .before .before .before .before .take in
-    let taken = c .before .before .take2 in
     let few : seen .result .value < 256 = hands-small (seen .ensures) in
     let row = getD (now (a .rows)) (seen .result .value) 0 in
-    let small = c .before .before .before .before .before .before .before .before .before .pre .1 (seen .result .value) few in
-    let on : c .before .before .before .before .wide-u16 .result / 16 % 16 ≡ row / 16 % 16 = ap (λ (r : ℕ). r / 16 % 16) (c .before .before .before .before .wide-u16 .ensures .0) in
-    let far = c .before .before .before .reach-of .ensures .0 ∙ ap (λ (r : ℕ). r % 16 + r / 256 * (2 + a .w)) (c .before .before .before .before .wide-u16 .ensures .0) in
-    let to : State = record { i = st .i + c .before .before .before .before .wide-u16 .result / 16 % 16; colour = st .colour; step = st .step; cur = taken .result .next } in (
-      omega (arith, taken .ensures .fewer, c .before .before .before .reach-of .ensures .1),
-      omega (arith, taken .ensures .fewer, c .before .before .before .before .before .before .before .before .before .pre .4),
+    let small = pre .1 (seen .result .value) few in
+    let on : wide-u16 .result / 16 % 16 ≡ row / 16 % 16 = ap (λ (r : ℕ). r / 16 % 16) (wide-u16 .ensures .0) in
+    let far = reach-of .ensures .0 ∙ ap (λ (r : ℕ). r % 16 + r / 256 * (2 + a .w)) (wide-u16 .ensures .0) in
+    let to : State = record { i = st .i + wide-u16 .result / 16 % 16; colour = st .colour; step = st .step; cur = taken .result .next } in (
+      omega (arith, taken .ensures .fewer, reach-of .ensures .1),
+      omega (arith, taken .ensures .fewer, pre .4),
       omega arith,
       omega (arith, on, small .1),
       taken .ensures .held,
@@ -70,13 +54,6 @@ returns c =
 
 pub skip-spec : {M : Type 1} → statement M
 skip-spec =
-    tie.close
-    (tie.spec
-    take-requires
-    mul-wide-u16
-    shared-slice-read-wide-u16
-    wide-u16-requires
-    reach-of-requires
-    take-requires-2
-    add-t13
-    returns)
+    tie.close (
+    tie.spec (λ c κs. search needs) mul-wide-u16 shared-slice-read-wide-u16 (λ c κs. search needs) reach-of-requires (λ c κs. search needs)
+    (λ c. search needs) returns)

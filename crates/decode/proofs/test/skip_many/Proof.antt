@@ -6,17 +6,6 @@ use Prim.Native.Nat.{ℕ}
 use borrow.Author.Needs.{needs}
 use Rattle.decode.proofs.test.skip_many.Statement.{statement}
 use Rattle.decode.proofs.test.skip_many.Tie as tie
-use Rattle.decode.proofs.test.skip_many.Reads as reads
-use Rattle.decode.proofs.test.skip_many.Lts as lts
-use Rattle.bits.proofs.Cursor.take.Reads as take-reads
-use Rattle.decode.proofs.test.skip.Reads as skip-reads
-use Rattle.strip.proofs.operations.kept.Reads as kept-reads
-
-take-requires : tie.Need-take-requires
-take-requires c κs = search needs
-
-kept-requires : tie.Need-kept-requires
-kept-requires c κs = search needs
 
 returns : tie.Need-returns
 returns c =
@@ -29,15 +18,6 @@ returns c =
       zeros .held,
       λ second s rows. kept-went second (a .w) s (a .st) 32 (many .result .next) zeros,
     )
-
-skip-requires : tie.Need-skip-requires
-skip-requires c κs = search needs
-
-skip-requires-2 : tie.Need-skip-requires-2
-skip-requires-2 c κs = search needs
-
-skip-requires-3 : tie.Need-skip-requires-3
-skip-requires-3 c κs = search needs
 
 returns-2 : tie.Need-returns-2
 returns-2 c =
@@ -55,12 +35,6 @@ returns-2 c =
 
 pub skip-many-spec : {M : Type 1} → statement M
 skip-many-spec =
-    tie.close
-    (tie.spec
-    take-requires
-    kept-requires
-    returns
-    skip-requires
-    skip-requires-2
-    skip-requires-3
+    tie.close (
+    tie.spec (λ c κs. search needs) (λ c κs. search needs) returns (λ c κs. search needs) (λ c κs. search needs) (λ c κs. search needs)
     returns-2)

@@ -7,14 +7,6 @@ use lib.ListN.{drop, length-drop}
 use borrow.Author.Needs.{needs}
 use Rattle.decode.proofs.test.test_raw.Statement.{statement}
 use Rattle.decode.proofs.test.test_raw.Tie as tie
-use Rattle.decode.proofs.test.test_raw.Reads as reads
-use Rattle.decode.proofs.test.test_raw.Lts as lts
-
-sub-if1 : tie.Need-sub-if1
-sub-if1 c = search needs
-
-mul-if1 : tie.Need-mul-if1
-mul-if1 c = search needs
 
 returns : tie.Need-returns
 returns c =
@@ -29,4 +21,4 @@ returns-2 c =
     sym (ap testOf (raw-full (a .h) (drop 1 body) (omega (arith, length-drop 1 body, c .if1 .left))))
 
 pub test-raw-spec : {M : Type 1} → statement M
-test-raw-spec = tie.close (tie.spec sub-if1 mul-if1 returns returns-2)
+test-raw-spec = tie.close (tie.spec (λ c. search needs) (λ c. search needs) returns returns-2)

@@ -17,9 +17,6 @@ abbrev μ-loop : tie.MeasureT-loop
 loop-holds : tie.Need-loop-holds Inv-loop μ-loop
 loop-holds c = list-none _ _ _
 
-find-tag-requires : tie.Need-find-tag-requires Inv-loop μ-loop
-find-tag-requires c κs = omega arith
-
 object-row-requires : tie.Need-object-row-requires Inv-loop μ-loop
 object-row-requires c κs =
     let i = nth-at _ _ _ _ 0 _ _ (sym (c .before .b .given .1) ∙ c .before .before .before .find-tag .ensures) in
@@ -30,16 +27,25 @@ add-n c = omega (arith, c .before .before .before .before .before .loop .inv .fe
 
 put-row-requires : tie.Need-put-row-requires Inv-loop μ-loop
 put-row-requires c κs =
-    let one = list-one _ _ _ _ _ _ _ _ (c .before .before .before .before .before .before .before .loop .inv) (sym (c .before .before .before .before .b .given .1) ∙ c .before .before .before .before .before .before .find-tag .ensures) in
-    omega (arith, one, c .before .before .before .before .before .before .before .loop .inv .same)
+    let at-b = c .before .before .before .before in let b = at-b .b in let find-tag = at-b .before .before .find-tag in
+    let loop = at-b .before .before .before .loop in
+    let one = list-one _ _ _ _ _ _ _ _ (loop .inv) (sym (b .given .1) ∙ find-tag .ensures) in
+    omega (arith, one, loop .inv .same)
 
 loop-less : tie.Need-loop-less Inv-loop μ-loop
 loop-less c =
-    let i = nth-at _ _ _ _ 0 _ _ (sym (c .before .before .before .before .before .before .before .b .given .1) ∙ c .before .before .before .before .before .before .before .before .before .find-tag .ensures) in
+    let at-b = c .before .before .before .before .before .before .before in let b = at-b .b in
+    let find-tag = at-b .before .before .find-tag in
+    let i = nth-at _ _ _ _ 0 _ _ (sym (b .given .1) ∙ find-tag .ensures) in
     omega arith
 
 loop-again : tie.Need-loop-again Inv-loop μ-loop
-loop-again c = list-more _ _ _ _ _ _ _ _ (c .before .before .before .before .before .before .before .before .before .before .loop .inv) (sym (c .before .before .before .before .before .before .before .b .given .1) ∙ c .before .before .before .before .before .before .before .before .before .find-tag .ensures) _ (rw (c .before .before .before .before .before .object-row .ensures) at (c .before .before .put-row .ensures))
+loop-again c =
+    let put-row = c .before .before .put-row in let at-object-row = c .before .before .before .before .before in
+    let object-row = at-object-row .object-row in let b = at-object-row .before .before .b in
+    let at-find-tag = at-object-row .before .before .before .before in let find-tag = at-find-tag .find-tag in
+    let loop = at-find-tag .before .loop in
+    list-more _ _ _ _ _ _ _ _ (loop .inv) (sym (b .given .1) ∙ find-tag .ensures) _ (rw (object-row .ensures) at (put-row .ensures))
 
 same-length : tie.Need-same-length Inv-loop μ-loop
 same-length c = c .before .before .before .loop .inv .same
@@ -49,6 +55,6 @@ returns c = list-all _ _ _ _ _ _ (c .before .before .before .loop .inv) (sym (c 
 
 pub list-objects-spec : {M : Type 1} → statement M
 list-objects-spec =
-    tie.close
-    (tie.spec Inv-loop μ-loop loop-holds find-tag-requires (λ c. search needs) object-row-requires add-n put-row-requires loop-less
+    tie.close (
+    tie.spec Inv-loop μ-loop loop-holds (λ c κs. omega arith) (λ c. search needs) object-row-requires add-n put-row-requires loop-less
     loop-again (λ c. search needs) same-length returns)

@@ -17,9 +17,6 @@ abbrev μ-loop : tie.MeasureT-loop
 loop-holds : tie.Need-loop-holds Inv-loop μ-loop
 loop-holds c = pair-none _ _ _
 
-find-tag-requires : tie.Need-find-tag-requires Inv-loop μ-loop
-find-tag-requires c κs = omega arith
-
 offer-image-requires : tie.Need-offer-image-requires Inv-loop μ-loop
 offer-image-requires c κs =
     let i = nth-at _ _ _ _ 0 _ _ (sym (c .before .before .b .given .1) ∙ c .before .before .before .before .find-tag .ensures) in
@@ -27,11 +24,15 @@ offer-image-requires c κs =
 
 loop-less : tie.Need-loop-less Inv-loop μ-loop
 loop-less c =
-    let i = nth-at _ _ _ _ 0 _ _ (sym (c .before .before .before .before .before .b .given .1) ∙ c .before .before .before .before .before .before .before .find-tag .ensures) in
+    let at-b = c .before .before .before .before .before in let b = at-b .b in let find-tag = at-b .before .before .find-tag in
+    let i = nth-at _ _ _ _ 0 _ _ (sym (b .given .1) ∙ find-tag .ensures) in
     omega arith
 
 loop-again : tie.Need-loop-again Inv-loop μ-loop
-loop-again c = pair-more _ _ _ _ _ _ _ _ (c .before .before .before .before .before .before .before .before .loop .inv) (sym (c .before .before .before .before .before .b .given .1) ∙ c .before .before .before .before .before .before .before .find-tag .ensures) (c .before .before .offer-image .ensures)
+loop-again c =
+    let offer-image = c .before .before .offer-image in let at-b = c .before .before .before .before .before in let b = at-b .b in
+    let find-tag = at-b .before .before .find-tag in let loop = at-b .before .before .before .loop in
+    pair-more _ _ _ _ _ _ _ _ (loop .inv) (sym (b .given .1) ∙ find-tag .ensures) (offer-image .ensures)
 
 same-length : tie.Need-same-length Inv-loop μ-loop
 same-length c = c .before .before .before .loop .inv .same
@@ -41,6 +42,6 @@ returns c = pair-all _ _ _ _ _ (c .before .before .before .loop .inv) (sym (c .e
 
 pub pair-images-spec : {M : Type 1} → statement M
 pair-images-spec =
-    tie.close
-    (tie.spec Inv-loop μ-loop loop-holds find-tag-requires (λ c. search needs) offer-image-requires loop-less loop-again (λ c. search needs)
-    same-length returns)
+    tie.close (
+    tie.spec Inv-loop μ-loop loop-holds (λ c κs. omega arith) (λ c. search needs) offer-image-requires loop-less loop-again
+    (λ c. search needs) same-length returns)

@@ -23,5 +23,5 @@ returns-2 c =
 
 pub object-row-spec : {M : Type 1} → statement M
 object-row-spec =
-    tie.close
-    (tie.spec (λ c. search needs) (λ c κs. search needs) (λ c. search needs) header-row-requires (λ c. search needs) returns returns-2)
+    tie.close (
+    tie.spec (λ c. search needs) (λ c κs. search needs) (λ c. search needs) header-row-requires (λ c. search needs) returns returns-2)

@@ -14,26 +14,8 @@ abbrev μ-loop : tie.MeasureT-loop
 loop-holds : tie.Need-loop-holds Inv-loop μ-loop
 loop-holds c = (omega arith, omega arith, offer-none _ _)
 
-element-copy-out-if1 : tie.Need-element-copy-out-if1 Inv-loop μ-loop
-element-copy-out-if1 c = omega arith
-
-mul-if1 : tie.Need-mul-if1 Inv-loop μ-loop
-mul-if1 c = omega arith
-
-mul-if1-2 : tie.Need-mul-if1-2 Inv-loop μ-loop
-mul-if1-2 c = omega arith
-
 slice-read-if1 : tie.Need-slice-read-if1 Inv-loop μ-loop
 slice-read-if1 c = omega (arith, c .before .before .before .loop .inv .2 .same)
-
-mul-if1-3 : tie.Need-mul-if1-3 Inv-loop μ-loop
-mul-if1-3 c = omega arith
-
-add-if1 : tie.Need-add-if1 Inv-loop μ-loop
-add-if1 c = omega arith
-
-mul-if1-4 : tie.Need-mul-if1-4 Inv-loop μ-loop
-mul-if1-4 c = omega arith
 
 slice-read-if1-2 : tie.Need-slice-read-if1-2 Inv-loop μ-loop
 slice-read-if1-2 c = omega (arith, c .before .before .before .before .loop .inv .2 .same)
@@ -41,20 +23,11 @@ slice-read-if1-2 c = omega (arith, c .before .before .before .before .loop .inv 
 put-row-requires : tie.Need-put-row-requires Inv-loop μ-loop
 put-row-requires c κs = omega (arith, c .before .before .before .before .before .before .loop .inv .2 .same)
 
-add-o : tie.Need-add-o Inv-loop μ-loop
-add-o c = omega arith
-
-loop-less : tie.Need-loop-less Inv-loop μ-loop
-loop-less c = omega arith
-
 loop-again : tie.Need-loop-again Inv-loop μ-loop
-loop-again c = (omega arith, omega arith, offer-taken _ _ _ _ _ (c .before .before .before .before .before .before .before .before .before .loop .inv .2) (c .before .before .before .before .if1 .taken) (c .before .before .put-row .ensures))
-
-add-o-2 : tie.Need-add-o-2 Inv-loop μ-loop
-add-o-2 c = omega arith
-
-loop-less-2 : tie.Need-loop-less-2 Inv-loop μ-loop
-loop-less-2 c = omega arith
+loop-again c =
+    let put-row = c .before .before .put-row in let at-if1 = c .before .before .before .before in let if1 = at-if1 .if1 in
+    let loop = at-if1 .before .before .before .before .before .loop in
+    (omega arith, omega arith, offer-taken _ _ _ _ _ (loop .inv .2) (if1 .taken) (put-row .ensures))
 
 loop-again-2 : tie.Need-loop-again-2 Inv-loop μ-loop
 loop-again-2 c = (omega arith, omega arith, offer-left _ _ _ _ (c .before .before .before .before .before .loop .inv .2) (c .if1 .left))
@@ -67,6 +40,7 @@ returns c = offer-all _ _ _ (c .before .loop .o) _ (omega arith) (c .before .loo
 
 pub offer-row-spec : {M : Type 1} → statement M
 offer-row-spec =
-    tie.close
-    (tie.spec Inv-loop μ-loop loop-holds element-copy-out-if1 mul-if1 mul-if1-2 slice-read-if1 mul-if1-3 add-if1 mul-if1-4 slice-read-if1-2
-    put-row-requires add-o loop-less loop-again add-o-2 loop-less-2 loop-again-2 same-length returns)
+    tie.close (
+    tie.spec Inv-loop μ-loop loop-holds (λ c. omega arith) (λ c. omega arith) (λ c. omega arith) slice-read-if1 (λ c. omega arith)
+    (λ c. omega arith) (λ c. omega arith) slice-read-if1-2 put-row-requires (λ c. omega arith) (λ c. omega arith) loop-again
+    (λ c. omega arith) (λ c. omega arith) loop-again-2 same-length returns)

@@ -17,22 +17,23 @@ cast-end c = omega (arith, c .shared-slice-known4 .given (8 * c .before .before 
 
 returns : tie.Need-returns
 returns c =
-    let a = c .before .before .before .before .before .args in
-    state-none _ (a .o) _ _ (gathered-start _ _ (c .before .before .before .before .before .pre .0) _ (c .before .before .before .before .before .pre .1) (c .before .before .before .before .before .pre .2)) (c .if1 .taken)
+    let start = c .before .before .before .before .before in let a = start .args in let pre = start .pre in
+    state-none _ (a .o) _ _ (gathered-start _ _ (pre .0) _ (pre .1) (pre .2)) (c .if1 .taken)
 
 find-tag-requires : tie.Need-find-tag-requires
 find-tag-requires c κs =
-    let a = c .before .before .before .before .before .args in
-    let ends = gathered-end _ _ (c .before .before .before .before .before .pre .0) _ (c .before .before .before .before .before .pre .1) (c .before .before .before .before .before .pre .2) in
+    let start = c .before .before .before .before .before in let a = start .args in let pre = start .pre in
+    let ends = gathered-end _ _ (pre .0) _ (pre .1) (pre .2) in
     omega (arith, ends, image-end (now (a .room)) (a .o))
 
 returns-2 : tie.Need-returns-2
 returns-2 c =
-    let a = c .before .before .before .before .before .before .args in
-    c .find-tag .ensures ∙ state-some _ (a .o) (a .st) _ (gathered-start _ _ (c .before .before .before .before .before .before .pre .0) _ (c .before .before .before .before .before .before .pre .1) (c .before .before .before .before .before .before .pre .2)) (c .before .if1 .left) _ (gathered-end _ _ (c .before .before .before .before .before .before .pre .0) _ (c .before .before .before .before .before .before .pre .1) (c .before .before .before .before .before .before .pre .2))
+    let start = c .before .before .before .before .before .before in let a = start .args in let pre = start .pre in
+    c .find-tag .ensures ∙ state-some _ (a .o) (a .st) _ (gathered-start _ _ (pre .0) _ (pre .1) (pre .2)) (c .before .if1 .left) _
+    (gathered-end _ _ (pre .0) _ (pre .1) (pre .2))
 
 pub state-block-spec : {M : Type 1} → statement M
 state-block-spec =
-    tie.close
-    (tie.spec (λ c. search needs) (λ c. search needs) (λ c. search needs) (λ c. search needs) cast-start (λ c. search needs)
+    tie.close (
+    tie.spec (λ c. search needs) (λ c. search needs) (λ c. search needs) (λ c. search needs) cast-start (λ c. search needs)
     (λ c. search needs) (λ c. search needs) (λ c. search needs) cast-end returns (λ c. search needs) find-tag-requires returns-2)

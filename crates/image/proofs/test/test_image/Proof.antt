@@ -25,5 +25,5 @@ returns-2 c =
 
 pub test-image-spec : {M : Type 1} → statement M
 test-image-spec =
-    tie.close
-    (tie.spec (λ c κs. search needs) (λ c. search needs) (λ c. search needs) returns test-im-requires returns-2)
+    tie.close (
+    tie.spec (λ c κs. search needs) (λ c. search needs) (λ c. search needs) returns test-im-requires returns-2)

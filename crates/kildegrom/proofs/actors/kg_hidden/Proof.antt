@@ -20,4 +20,6 @@ returns-3 c =
     sym (ap (λ t. cond t 4294967296 0) (c .if1 .left)) ∙ ap hiddenWord (sym (c .before .before .is .given .1) ∙ hidden .ensures .0)
 
 pub kg-hidden-spec : {M : Type 1} → statement M
-kg-hidden-spec = tie.close (tie.spec (λ c κs. search needs) (λ c. search needs) (λ c. search needs) (λ c. search needs) returns returns-2 returns-3)
+kg-hidden-spec =
+    tie.close (
+    tie.spec (λ c κs. search needs) (λ c. search needs) (λ c. search needs) (λ c. search needs) returns returns-2 returns-3)

@@ -16,6 +16,6 @@ returns-3 c = ap drawnWord (sym (c .before .picture .given .1) ∙ c .before .be
 
 pub kg-limb-draws-spec : {M : Type 1} → statement M
 kg-limb-draws-spec =
-    tie.close (tie.spec
-    (λ c κs. search needs) (λ c. search needs) (λ c. search needs) (λ c. search needs) (λ c. search needs) (λ c. search needs) (λ c. search needs)
-    (λ c. search needs) returns returns-2 returns-3)
+    tie.close (
+    tie.spec (λ c κs. search needs) (λ c. search needs) (λ c. search needs) (λ c. search needs) (λ c. search needs) (λ c. search needs)
+    (λ c. search needs) (λ c. search needs) returns returns-2 returns-3)

@@ -16,6 +16,6 @@ returns-3 c = ap pointedWord (sym (c .before .number .given .1) ∙ c .before .b
 
 pub kg-object-at-spec : {M : Type 1} → statement M
 kg-object-at-spec =
-    tie.close (tie.spec
-    (λ c κs. search needs) (λ c. search needs) (λ c. search needs) (λ c. search needs) (λ c. search needs) (λ c. search needs) (λ c. search needs)
-    returns returns-2 returns-3)
+    tie.close (
+    tie.spec (λ c κs. search needs) (λ c. search needs) (λ c. search needs) (λ c. search needs) (λ c. search needs) (λ c. search needs)
+    (λ c. search needs) returns returns-2 returns-3)

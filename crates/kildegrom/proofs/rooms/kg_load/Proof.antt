@@ -10,4 +10,6 @@ returns c =
     (of .0, λ i. lent (of .1 .0 i) (of .1 .1 .0 i) (of .1 .1 .1 i))
 
 pub kg-load-spec : {M : Type 1} → statement M
-kg-load-spec = tie.close (tie.spec (λ c κs. search needs) (λ c. search needs) (λ c. search needs) (λ c. search needs) returns)
+kg-load-spec =
+    tie.close (
+    tie.spec (λ c κs. search needs) (λ c. search needs) (λ c. search needs) (λ c. search needs) returns)

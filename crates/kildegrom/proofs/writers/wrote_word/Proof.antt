@@ -3,7 +3,7 @@ use Prim.Native.Nat.{_<_}
 use mathlib.Core.Path.{sym, ap, subst}
 use native.Mathlib.Omega.{arith}
 use borrow.Author.Needs.{needs}
-use Rattle.blocks.specs.declared.Wrote.{Wrote}
+use Rattle.block_writer.specs.declared.Wrote.{Wrote}
 use Rattle.kildegrom.specs.Word.{lengthOf, wroteWord}
 use Rattle.kildegrom.proofs.writers.wrote_word.Statement.{statement}
 use Rattle.kildegrom.proofs.writers.wrote_word.Tie as tie
@@ -18,4 +18,6 @@ returns : tie.Need-returns
 returns c = sym (ap wroteWord (c .before .answer .given .1))
 
 pub wrote-word-spec : {M : Type 1} → statement M
-wrote-word-spec = tie.close (tie.spec (λ c. search needs) mul-result (λ c. search needs) (λ c. search needs) returns (λ c. search needs))
+wrote-word-spec =
+    tie.close (
+    tie.spec (λ c. search needs) mul-result (λ c. search needs) (λ c. search needs) returns (λ c. search needs))

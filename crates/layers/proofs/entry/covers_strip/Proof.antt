@@ -6,24 +6,6 @@ use borrow.Author.Needs.{needs}
 use Rattle.layers.proofs.entry.covers_strip.Statement.{statement}
 use Rattle.layers.proofs.entry.covers_strip.Tie as tie
 
-cast-left : tie.Need-cast-left
-cast-left c = search needs
-
-cast-strips : tie.Need-cast-strips
-cast-strips c = search needs
-
-mul-strips : tie.Need-mul-strips
-mul-strips c = search needs
-
-add-strips : tie.Need-add-strips
-add-strips c = search needs
-
-mul-strips-2 : tie.Need-mul-strips-2
-mul-strips-2 c = search needs
-
-shared-slice-read-strips : tie.Need-shared-slice-read-strips
-shared-slice-read-strips c = search needs
-
 cast-strips-2 : tie.Need-cast-strips-2
 cast-strips-2 c = omega (arith, c .shared-slice-known .given (8 * c .before .before .before .args .e .object + 3))
 
@@ -37,14 +19,6 @@ returns c = λ s r g one le. covers-by s r _ (c .before .before .before .args .e
 
 pub covers-strip-spec : {M : Type 1} → statement M
 covers-strip-spec =
-    tie.close
-    (tie.spec
-    cast-left
-    cast-strips
-    mul-strips
-    add-strips
-    mul-strips-2
-    shared-slice-read-strips
-    cast-strips-2
-    add-result
-    returns)
+    tie.close (
+    tie.spec (λ c. search needs) (λ c. search needs) (λ c. search needs) (λ c. search needs) (λ c. search needs) (λ c. search needs)
+    cast-strips-2 add-result returns)

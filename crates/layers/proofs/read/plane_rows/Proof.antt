@@ -7,12 +7,6 @@ use borrow.Author.Needs.{needs}
 use Rattle.layers.proofs.read.plane_rows.Statement.{statement}
 use Rattle.layers.proofs.read.plane_rows.Tie as tie
 
-plane-in-requires : tie.Need-plane-in-requires
-plane-in-requires c κs = search needs
-
-enum-known-b : tie.Need-enum-known-b
-enum-known-b c = search needs
-
 read-rows-requires : tie.Need-read-rows-requires
 read-rows-requires c κs =
     let start = c .before .before .before .before .before .before .before in
@@ -23,24 +17,12 @@ read-rows-requires c κs =
       (plane-table _ (start .args .m) _ _ (p .1) (start .pre .1) _ _ at, p .3),
     )
 
-enum-told : tie.Need-enum-told
-enum-told c = search needs
-
-fill-requires : tie.Need-fill-requires
-fill-requires c κs = search needs
-
-same-length : tie.Need-same-length
-same-length c = search needs
-
 returns : tie.Need-returns
 returns c =
     let start = c .before .before .before .before .before .before .before .before .before .before in
     let at = sym (c .before .before .before .before .before .b .given .1) ∙ c .before .before .before .before .before .before .before .plane-in .ensures in
     let read = c .before .before .read-rows in
     rows-read _ (start .args .m) _ _ (start .pre .0 .1) (start .pre .1) _ _ at _ _ (read .result) (read .ensures)
-
-same-length-2 : tie.Need-same-length-2
-same-length-2 c = search needs
 
 returns-2 : tie.Need-returns-2
 returns-2 c =
@@ -50,14 +32,6 @@ returns-2 c =
 
 pub plane-rows-spec : {M : Type 1} → statement M
 plane-rows-spec =
-    tie.close
-    (tie.spec
-    plane-in-requires
-    enum-known-b
-    read-rows-requires
-    enum-told
-    fill-requires
-    same-length
-    returns
-    same-length-2
-    returns-2)
+    tie.close (
+    tie.spec (λ c κs. search needs) (λ c. search needs) read-rows-requires (λ c. search needs) (λ c κs. search needs) (λ c. search needs)
+    returns (λ c. search needs) returns-2)

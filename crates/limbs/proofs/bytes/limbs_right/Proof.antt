@@ -22,28 +22,22 @@ loop-holds : tie.Need-loop-holds Inv-loop μ-loop
 unfolding all
 loop-holds c = (omega arith, omega arith, refl)
 
-limb-at-requires : tie.Need-limb-at-requires Inv-loop μ-loop
-limb-at-requires c κs = omega arith
-
-limb-right-requires : tie.Need-limb-right-requires Inv-loop μ-loop
-limb-right-requires c κs = search needs
-
 returns : tie.Need-returns Inv-loop μ-loop
 unfolding limbsRight
 returns c =
-    let off = not-true (c .before .limb-right .result) (c .if1 .taken) in
-    sym (all-false 16 (λ k. limbRight (c .before .before .before .before .before .before .args .n) (limbAt (c .before .before .before .before .before .before .args .limbs .now) k)) (c .before .before .before .before .loop .i) (c .before .before .before .loop-test .taken) (ap (limbRight (c .before .before .before .before .before .before .args .n)) (sym (c .before .before .limb-at .ensures)) ∙ sym (c .before .limb-right .ensures) ∙ off))
-
-add-i : tie.Need-add-i Inv-loop μ-loop
-add-i c = omega arith
-
-loop-less : tie.Need-loop-less Inv-loop μ-loop
-loop-less c = omega arith
+    let limb-right = c .before .limb-right in let limb-at = c .before .before .limb-at in
+    let loop-test = c .before .before .before .loop-test in let at-loop = c .before .before .before .before in let loop = at-loop .loop in
+    let args = at-loop .before .before .args in
+    let off = not-true (limb-right .result) (c .if1 .taken) in
+    sym (all-false 16 (λ k. limbRight (args .n) (limbAt (args .limbs .now) k)) (loop .i) (loop-test .taken)
+    (ap (limbRight (args .n)) (sym (limb-at .ensures)) ∙ sym (limb-right .ensures) ∙ off))
 
 loop-again : tie.Need-loop-again Inv-loop μ-loop
 loop-again c =
-    let on = not-false (c .before .limb-right .result) (c .if1 .left) in
-    (omega arith, c .before .before .before .before .loop .inv .1, rw add-one (all-more _ _ (c .before .before .before .before .loop .inv .2) (ap (limbRight (c .before .before .before .before .before .before .args .n)) (sym (c .before .before .limb-at .ensures)) ∙ sym (c .before .limb-right .ensures) ∙ on)))
+    let limb-right = c .before .limb-right in let limb-at = c .before .before .limb-at in let at-loop = c .before .before .before .before in
+    let loop = at-loop .loop in let args = at-loop .before .before .args in
+    let on = not-false (limb-right .result) (c .if1 .left) in
+    (omega arith, loop .inv .1, rw add-one (all-more _ _ (loop .inv .2) (ap (limbRight (args .n)) (sym (limb-at .ensures)) ∙ sym (limb-right .ensures) ∙ on)))
 
 returns-2 : tie.Need-returns-2 Inv-loop μ-loop
 unfolding limbsRight
@@ -53,15 +47,6 @@ returns-2 c =
 
 pub limbs-right-spec : {M : Type 1} → statement M
 limbs-right-spec =
-    tie.close
-    (tie.spec
-    Inv-loop
-    μ-loop
-    loop-holds
-    limb-at-requires
-    limb-right-requires
-    returns
-    add-i
-    loop-less
-    loop-again
-    returns-2)
+    tie.close (
+    tie.spec Inv-loop μ-loop loop-holds (λ c κs. omega arith) (λ c κs. search needs) returns (λ c. omega arith) (λ c. omega arith)
+    loop-again returns-2)

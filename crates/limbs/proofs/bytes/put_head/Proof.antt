@@ -7,22 +7,6 @@ use Rattle.number.proofs.StoreLaws.{sets-append}
 use borrow.Author.Needs.{needs}
 use Rattle.limbs.proofs.bytes.put_head.Statement.{statement}
 use Rattle.limbs.proofs.bytes.put_head.Tie as tie
-use Rattle.limbs.proofs.bytes.put_head.Reads as reads
-use Rattle.limbs.proofs.bytes.put_head.Lts as lts
-use Rattle.number.proofs.buffer.put_four.Reads as put-four-reads
-use Rattle.number.proofs.buffer.put_two.Reads as put-two-reads
-
-put-four-requires : tie.Need-put-four-requires
-put-four-requires c κs = search needs
-
-add-put-two : tie.Need-add-put-two
-add-put-two c = search needs
-
-put-two-requires : tie.Need-put-two-requires
-put-two-requires c κs = search needs
-
-same-length : tie.Need-same-length
-same-length c = search needs
 
 returns : tie.Need-returns
 returns c =
@@ -34,4 +18,5 @@ returns c =
 
 pub put-head-spec : {M : Type 1} → statement M
 put-head-spec =
-    tie.close (tie.spec put-four-requires add-put-two put-two-requires same-length returns)
+    tie.close (
+    tie.spec (λ c κs. search needs) (λ c. search needs) (λ c κs. search needs) (λ c. search needs) returns)

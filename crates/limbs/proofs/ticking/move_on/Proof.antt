@@ -5,15 +5,6 @@ use Rattle.limbs.specs.Tick.{movedOn}
 use Rattle.limbs.proofs.ticking.move_on.Statement.{statement}
 use Rattle.limbs.proofs.ticking.move_on.Tie as tie
 
-add-next : tie.Need-add-next
-add-next c = search needs
-
-wide-requires : tie.Need-wide-requires
-wide-requires c κs = search needs
-
-add-if1 : tie.Need-add-if1
-add-if1 c = search needs
-
 returns : tie.Need-returns
 unfolding movedOn
 returns c = rw (← c .before .before .wide .ensures .0, lt-ltb _ _ (c .if1 .taken))
@@ -27,4 +18,6 @@ unfolding movedOn
 returns-3 c = rw (← c .before .before .before .before .wide .ensures .0, le-ltb _ _ (c .before .before .if1 .left), eq-eqb _ _ (c .if2 .left))
 
 pub move-on-spec : {M : Type 1} → statement M
-move-on-spec = tie.close (tie.spec add-next wide-requires add-if1 returns returns-2 returns-3)
+move-on-spec =
+    tie.close (
+    tie.spec (λ c. search needs) (λ c κs. search needs) (λ c. search needs) returns returns-2 returns-3)

@@ -13,7 +13,8 @@ use Rattle.limbs.proofs.ticking.tick_limbs.Tie as tie
 
 abbrev Inv-loop : tie.InvT-loop
 Inv-loop payload from limbs₀ i₀ limbs i =
-    (i ≤ 16) × (from ≤ length payload) × (256 ≤ length limbs₀) × (length limbs ≡ length limbs₀) × (limbsRight (length payload - from) limbs₀ ≡ true) × (limbs ≡ eachLimb (λ k. tickedLimb (drop from payload)) i limbs₀)
+    (i ≤ 16) × (from ≤ length payload) × (256 ≤ length limbs₀) × (length limbs ≡ length limbs₀) × (limbsRight (length payload - from) limbs₀ ≡ true) ×
+    (limbs ≡ eachLimb (λ k. tickedLimb (drop from payload)) i limbs₀)
 
 abbrev μ-loop : tie.MeasureT-loop
 μ-loop payload from limbs₀ i₀ limbs i = 16 - i
@@ -22,35 +23,30 @@ loop-holds : tie.Need-loop-holds Inv-loop μ-loop
 unfolding eachLimb
 loop-holds c = (omega arith, c .before .before .pre .0, c .before .before .pre .1, refl, c .before .before .pre .2, refl)
 
-limb-at-requires : tie.Need-limb-at-requires Inv-loop μ-loop
-limb-at-requires c κs = omega arith
-
 tick-limb-requires : tie.Need-tick-limb-requires Inv-loop μ-loop
 unfolding limbsRight
 tick-limb-requires c κs =
-    let v = c .before .before .before .loop .inv in
-    let n = length (c .before .before .before .before .before .before .args .payload .now) - c .before .before .before .before .before .before .args .from in
-    let same = limb-kept (λ k. tickedLimb (drop (c .before .before .before .before .before .before .args .from) (c .before .before .before .before .before .before .args .payload .now))) (c .before .before .before .before .before .before .args .limbs .now) (c .before .before .before .loop .i) _ _ (v .5) (c .limb-at .ensures) in
-    (v .1, ap (limbRight n) same ∙ all-at 16 (λ k. limbRight n (limbAt (c .before .before .before .before .before .before .args .limbs .now) k)) (v .4) (c .before .before .before .loop .i) (c .before .before .loop-test .taken))
-
-put-limb-requires : tie.Need-put-limb-requires Inv-loop μ-loop
-put-limb-requires c κs = omega arith
-
-add-i : tie.Need-add-i Inv-loop μ-loop
-add-i c = omega arith
-
-loop-less : tie.Need-loop-less Inv-loop μ-loop
-loop-less c = omega arith
+    let loop-test = c .before .before .loop-test in let loop = c .before .before .before .loop in
+    let args = c .before .before .before .before .before .before .args in
+    let v = loop .inv in
+    let n = length (args .payload .now) - args .from in
+    let same = limb-kept (λ k. tickedLimb (drop (args .from) (args .payload .now))) (args .limbs .now) (loop .i) _ _ (v .5) (c .limb-at .ensures) in
+    (v .1, ap (limbRight n) same ∙ all-at 16 (λ k. limbRight n (limbAt (args .limbs .now) k)) (v .4) (loop .i) (loop-test .taken))
 
 loop-again : tie.Need-loop-again Inv-loop μ-loop
 loop-again c =
-    let v = c .before .before .before .before .before .before .before .before .loop .inv in (
+    let put-limb = c .before .before .put-limb in let at-tick-limb = c .before .before .before .before in
+    let tick-limb = at-tick-limb .tick-limb in let limb-at = at-tick-limb .before .limb-at in
+    let at-loop = at-tick-limb .before .before .before .before in let loop = at-loop .loop in
+    let args = at-loop .before .before .before .args in
+    let v = loop .inv in (
       omega arith,
       v .1,
       v .2,
-      c .before .before .put-limb .kept .0 ∙ v .3,
+      put-limb .kept .0 ∙ v .3,
       v .4,
-      rw add-one (each-more (λ k. tickedLimb (drop (c .before .before .before .before .before .before .before .before .before .before .before .args .from) (c .before .before .before .before .before .before .before .before .before .before .before .args .payload .now))) (c .before .before .before .before .before .before .before .before .before .before .before .args .limbs .now) (c .before .before .before .before .before .before .before .before .loop .i) _ _ _ _ (v .5) (c .before .before .before .before .before .limb-at .ensures) (c .before .before .before .before .tick-limb .ensures) (c .before .before .put-limb .ensures)),
+      rw add-one (each-more (λ k. tickedLimb (drop (args .from) (args .payload .now))) (args .limbs .now) (loop .i) _ _ _ _ (v .5) (limb-at .ensures)
+          (tick-limb .ensures) (put-limb .ensures)),
     )
 
 same-length : tie.Need-same-length Inv-loop μ-loop
@@ -63,16 +59,6 @@ returns c =
 
 pub tick-limbs-spec : {M : Type 1} → statement M
 tick-limbs-spec =
-    tie.close
-    (tie.spec
-    Inv-loop
-    μ-loop
-    loop-holds
-    limb-at-requires
-    tick-limb-requires
-    put-limb-requires
-    add-i
-    loop-less
-    loop-again
-    same-length
-    returns)
+    tie.close (
+    tie.spec Inv-loop μ-loop loop-holds (λ c κs. omega arith) tick-limb-requires (λ c κs. omega arith) (λ c. omega arith) (λ c. omega arith)
+    loop-again same-length returns)

@@ -12,9 +12,6 @@ use Rattle.load.proofs.paint.clear_plane.Tie as tie
 room : (c : tie.Start) → (c .args .plane - 1) * c .args .h * c .args .n + c .args .h * c .args .n ≤ length (c .args .masks .now)
 room c = plane-room (c .args .plane - 1) (c .args .h) (c .args .n) (c .args .planes) (length (c .args .masks .now)) (omega arith) (omega arith)
 
-sub-fill : tie.Need-sub-fill
-sub-fill c = search needs
-
 mul-fill : tie.Need-mul-fill
 mul-fill c =
     let few : c .before .before .args .plane - 1 ≤ 3 = omega arith in
@@ -29,9 +26,6 @@ mul-fill-3 c = omega (arith, room (c .before .before))
 fill-requires : tie.Need-fill-requires
 fill-requires c κs = room (c .before .before)
 
-same-length : tie.Need-same-length
-same-length c = search needs
-
 returns : tie.Need-returns
 returns c =
     let fill = c .before .before .fill in
@@ -39,4 +33,5 @@ returns c =
 
 pub clear-plane-spec : {M : Type 1} → statement M
 clear-plane-spec =
-    tie.close (tie.spec sub-fill mul-fill mul-fill-2 mul-fill-3 fill-requires same-length returns)
+    tie.close (
+    tie.spec (λ c. search needs) mul-fill mul-fill-2 mul-fill-3 fill-requires (λ c. search needs) returns)

@@ -28,12 +28,6 @@ paint-strip-requires c κs =
       (block-table _ _ _ _ _ _ passed, (block-strip _ _ _ _ _ _ passed _ (omega arith), omega arith)),
     )
 
-add-k : tie.Need-add-k Inv-loop μ-loop
-add-k c = omega arith
-
-loop-less : tie.Need-loop-less Inv-loop μ-loop
-loop-less c = omega arith
-
 loop-again : tie.Need-loop-again Inv-loop μ-loop
 loop-again c =
     let head = c .before .before .before .before .before in
@@ -49,9 +43,6 @@ loop-again c =
       omega arith,
     )
 
-same-length : tie.Need-same-length Inv-loop μ-loop
-same-length c = omega arith
-
 returns : tie.Need-returns Inv-loop μ-loop
 returns c =
     let all : c .before .loop .k ≡ c .before .before .before .before .args .n = omega arith in
@@ -59,14 +50,5 @@ returns c =
 
 pub paint-background-spec : {M : Type 1} → statement M
 paint-background-spec =
-    tie.close
-    (tie.spec
-    Inv-loop
-    μ-loop
-    loop-holds
-    paint-strip-requires
-    add-k
-    loop-less
-    loop-again
-    same-length
-    returns)
+    tie.close (
+    tie.spec Inv-loop μ-loop loop-holds paint-strip-requires (λ c. omega arith) (λ c. omega arith) loop-again (λ c. omega arith) returns)

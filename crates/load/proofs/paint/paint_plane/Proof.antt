@@ -28,12 +28,6 @@ paint-rows-requires c κs =
       (block-table _ _ _ _ _ _ passed, (block-strip _ _ _ _ _ _ passed _ (c .before .loop-test .taken), (omega arith, omega arith, omega arith, omega arith))),
     )
 
-add-s : tie.Need-add-s Inv-loop μ-loop
-add-s c = omega arith
-
-loop-less : tie.Need-loop-less Inv-loop μ-loop
-loop-less c = omega arith
-
 loop-again : tie.Need-loop-again Inv-loop μ-loop
 loop-again c =
     let head = c .before .before .before .before .before in
@@ -47,9 +41,6 @@ loop-again c =
       omega arith,
     )
 
-same-length : tie.Need-same-length Inv-loop μ-loop
-same-length c = omega arith
-
 returns : tie.Need-returns Inv-loop μ-loop
 returns c =
     let all : c .before .loop .s ≡ c .before .before .before .before .args .n = omega arith in
@@ -57,14 +48,5 @@ returns c =
 
 pub paint-plane-spec : {M : Type 1} → statement M
 paint-plane-spec =
-    tie.close
-    (tie.spec
-    Inv-loop
-    μ-loop
-    loop-holds
-    paint-rows-requires
-    add-s
-    loop-less
-    loop-again
-    same-length
-    returns)
+    tie.close (
+    tie.spec Inv-loop μ-loop loop-holds paint-rows-requires (λ c. omega arith) (λ c. omega arith) loop-again (λ c. omega arith) returns)

@@ -7,21 +7,6 @@ use Rattle.load.proofs.CellLaws.{read-row}
 use Rattle.load.proofs.paint.paint_rows.Statement.{statement}
 use Rattle.load.proofs.paint.paint_rows.Tie as tie
 
-slice-aggregate-read-rows : tie.Need-slice-aggregate-read-rows
-slice-aggregate-read-rows c = search needs
-
-read-rows-requires : tie.Need-read-rows-requires
-read-rows-requires c κs = search needs
-
-slice-aggregate-put-rows : tie.Need-slice-aggregate-put-rows
-slice-aggregate-put-rows c = search needs
-
-put-rows-requires : tie.Need-put-rows-requires
-put-rows-requires c κs = search needs
-
-same-length : tie.Need-same-length
-same-length c = search needs
-
 returns : tie.Need-returns
 returns c =
     let after = c .before .before .before .before .before .before in
@@ -34,11 +19,5 @@ returns c =
 
 pub paint-rows-spec : {M : Type 1} → statement M
 paint-rows-spec =
-    tie.close
-    (tie.spec
-    slice-aggregate-read-rows
-    read-rows-requires
-    slice-aggregate-put-rows
-    put-rows-requires
-    same-length
-    returns)
+    tie.close (
+    tie.spec (λ c. search needs) (λ c κs. search needs) (λ c. search needs) (λ c κs. search needs) (λ c. search needs) returns)

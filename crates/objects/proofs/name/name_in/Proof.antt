@@ -26,5 +26,5 @@ returns-2 c =
 
 pub name-in-spec : {M : Type 1} → statement M
 name-in-spec =
-    tie.close
-    (tie.spec (λ c. search needs) (λ c κs. search needs) (λ c. search needs) nul-from-requires (λ c. search needs) returns returns-2)
+    tie.close (
+    tie.spec (λ c. search needs) (λ c κs. search needs) (λ c. search needs) nul-from-requires (λ c. search needs) returns returns-2)

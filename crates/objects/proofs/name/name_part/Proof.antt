@@ -23,5 +23,5 @@ returns-2 c =
 
 pub name-part-spec : {M : Type 1} → statement M
 name-part-spec =
-    tie.close
-    (tie.spec (λ c κs. search needs) (λ c. search needs) sub-t8 (λ c. search needs) returns returns-2)
+    tie.close (
+    tie.spec (λ c κs. search needs) (λ c. search needs) sub-t8 (λ c. search needs) returns returns-2)

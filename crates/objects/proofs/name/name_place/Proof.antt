@@ -25,5 +25,5 @@ returns-2 c =
 
 pub name-place-spec : {M : Type 1} → statement M
 name-place-spec =
-    tie.close
-    (tie.spec (λ c κs. search needs) (λ c κs. search needs) (λ c. search needs) name-in-requires (λ c. search needs) returns returns-2)
+    tie.close (
+    tie.spec (λ c κs. search needs) (λ c κs. search needs) (λ c. search needs) name-in-requires (λ c. search needs) returns returns-2)

@@ -14,6 +14,4 @@ returns c =
     (λ i. is i .start + is i .count * 4294967296) ∙ part-word (namePlace (now (a .s)) (a .object))
 
 pub name-word-spec : {M : Type 1} → statement M
-name-word-spec =
-    tie.close
-    (tie.spec (λ c κs. search needs) (λ c. search needs) (λ c. search needs) returns)
+name-word-spec = tie.close (tie.spec (λ c κs. search needs) (λ c. search needs) (λ c. search needs) returns)

@@ -23,5 +23,5 @@ returns-2 c = nul-end _ _ _ (search needs) ∙ c .before .loop .inv .1
 
 pub nul-from-spec : {M : Type 1} → statement M
 nul-from-spec =
-    tie.close
-    (tie.spec Inv-loop μ-loop (λ c. search needs) (λ c. search needs) returns (λ c. search needs) (λ c. search needs) loop-again returns-2)
+    tie.close (
+    tie.spec Inv-loop μ-loop (λ c. search needs) (λ c. search needs) returns (λ c. search needs) (λ c. search needs) loop-again returns-2)

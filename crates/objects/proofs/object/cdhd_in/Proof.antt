@@ -16,5 +16,5 @@ returns-2 c =
 
 pub cdhd-in-spec : {M : Type 1} → statement M
 cdhd-in-spec =
-    tie.close
-    (tie.spec (λ c. search needs) (λ c κs. search needs) (λ c. search needs) (λ c. search needs) returns returns-2)
+    tie.close (
+    tie.spec (λ c. search needs) (λ c κs. search needs) (λ c. search needs) (λ c. search needs) returns returns-2)

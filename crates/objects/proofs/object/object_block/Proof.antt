@@ -14,6 +14,4 @@ unfolding objectBlock
 returns-2 c = rw (ne-eqb _ _ (c .before .if1 .left)) (c .nth-tag .ensures)
 
 pub object-block-spec : {M : Type 1} → statement M
-object-block-spec =
-    tie.close
-    (tie.spec returns (λ c. search needs) (λ c κs. search needs) returns-2)
+object-block-spec = tie.close (tie.spec returns (λ c. search needs) (λ c κs. search needs) returns-2)

@@ -22,28 +22,19 @@ abbrev μ-loop : tie.MeasureT-loop
 loop-holds : tie.Need-loop-holds Inv-loop μ-loop
 loop-holds c = (omega arith, refl, refl, refl)
 
-shared-slice-read-out : tie.Need-shared-slice-read-out Inv-loop μ-loop
-shared-slice-read-out c = omega arith
-
 slice-write-out : tie.Need-slice-write-out Inv-loop μ-loop
 slice-write-out c = omega (arith, c .before .before .loop .inv .1)
 
-add-i : tie.Need-add-i Inv-loop μ-loop
-add-i c = omega arith
-
-loop-less : tie.Need-loop-less Inv-loop μ-loop
-loop-less c = omega arith
-
 loop-again : tie.Need-loop-again Inv-loop μ-loop
 loop-again c =
-    let l = c .before .before .loop in
-    let a = c .before .before .before .args in
+    let l = c .before .before .loop in let a = c .before .before .before .args in
     let v = getD (now (a .src)) (l .i) 0 in
     let room : l .i < length (l .out) = omega (arith, l .inv .1) in (
       omega arith,
       length-set (l .out) (l .i) v ∙ l .inv .1,
       drop-store (l .out) _ (l .i) v (l .inv .2),
-      rw add-one (take-suc-set {A = ℕ} (l .out) (l .i) v room ∙ ap (λ (p : List ℕ). p ++ (v ∷ [])) (l .inv .3) ∙ sym (take-suc (now (a .src)) (l .i) 0 (c .before .loop-test .taken))),
+      rw add-one (take-suc-set {A = ℕ} (l .out) (l .i) v room ∙ ap (λ (p : List ℕ). p ++ (v ∷ [])) (l .inv .3) ∙ sym
+          (take-suc (now (a .src)) (l .i) 0 (c .before .loop-test .taken))),
     )
 
 same-length : tie.Need-same-length Inv-loop μ-loop
@@ -58,5 +49,6 @@ returns c =
 
 pub put-front-spec : {M : Type 1} → statement M
 put-front-spec =
-    tie.close
-    (tie.spec Inv-loop μ-loop loop-holds shared-slice-read-out slice-write-out add-i loop-less loop-again same-length returns)
+    tie.close (
+    tie.spec Inv-loop μ-loop loop-holds (λ c. omega arith) slice-write-out (λ c. omega arith) (λ c. omega arith) loop-again same-length
+    returns)

@@ -10,26 +10,11 @@ use borrow.Author.Needs.{needs}
 use Rattle.play.proofs.calls.call.Statement.{statement}
 use Rattle.play.proofs.calls.call.Tie as tie
 
-surfaces-lent-requires : tie.Need-surfaces-lent-requires
-surfaces-lent-requires c κs = search needs
-
-test-room-requires : tie.Need-test-room-requires
-test-room-requires c κs = search needs
-
-enum-known-r : tie.Need-enum-known-r
-enum-known-r c = search needs
-
-slice-aggregate-gather : tie.Need-slice-aggregate-gather
-slice-aggregate-gather c = search needs
-
 gather-requires : tie.Need-gather-requires
 gather-requires c κs =
     let right = sym (c .before .before .r .given .1) ∙ c .before .before .before .before .test-room .ensures in
     let few = few-objects _ _ _ right in
     (few .0, few .1, omega arith)
-
-slice-aggregate-call-tested : tie.Need-slice-aggregate-call-tested
-slice-aggregate-call-tested c = search needs
 
 call-tested-requires : tie.Need-call-tested-requires
 call-tested-requires c κs =
@@ -44,21 +29,6 @@ call-tested-requires c κs =
       (record { sound = passes .sound; passed = passes .pictures; gathered = gathered }, objects-counted _ _ _ right, long .0),
       (long .1, long .2),
     )
-
-enum-known-number : tie.Need-enum-known-number
-enum-known-number c = search needs
-
-cast-result : tie.Need-cast-result
-cast-result c = search needs
-
-same-length : tie.Need-same-length
-same-length c = search needs
-
-same-length-2 : tie.Need-same-length-2
-same-length-2 c = search needs
-
-same-length-3 : tie.Need-same-length-3
-same-length-3 c = search needs
 
 returns : tie.Need-returns
 returns c =
@@ -79,19 +49,7 @@ returns-2 c =
 
 pub call-spec : {M : Type 1} → statement M
 call-spec =
-    tie.close
-    (tie.spec
-    surfaces-lent-requires
-    test-room-requires
-    enum-known-r
-    slice-aggregate-gather
-    gather-requires
-    slice-aggregate-call-tested
-    call-tested-requires
-    enum-known-number
-    cast-result
-    same-length
-    same-length-2
-    same-length-3
-    returns
+    tie.close (
+    tie.spec (λ c κs. search needs) (λ c κs. search needs) (λ c. search needs) (λ c. search needs) gather-requires (λ c. search needs)
+    call-tested-requires (λ c. search needs) (λ c. search needs) (λ c. search needs) (λ c. search needs) (λ c. search needs) returns
     returns-2)

@@ -10,7 +10,8 @@ use Rattle.play.proofs.flat.flatten.Statement.{statement}
 use Rattle.play.proofs.flat.flatten.Tie as tie
 
 abbrev Inv-loop : tie.InvT-loop
-Inv-loop out₀ s n i₀ out i = (i ≤ n) × (n ≤ 64) × (n ≡ s .n) × (length (s .list) ≡ 64) × (256 ≤ length out₀) × (length out ≡ length out₀) × (entriesOf out i ≡ take i (s .list))
+Inv-loop out₀ s n i₀ out i = (i ≤ n) × (n ≤ 64) × (n ≡ s .n) × (length (s .list) ≡ 64) × (256 ≤ length out₀) × (length out ≡ length out₀) ×
+    (entriesOf out i ≡ take i (s .list))
 
 abbrev μ-loop : tie.MeasureT-loop
 μ-loop out₀ s n i₀ out i = n - i
@@ -19,58 +20,20 @@ loop-holds : tie.Need-loop-holds Inv-loop μ-loop
 unfolding entriesOf
 loop-holds c = (omega arith, c .pre .0, refl, search (needs, length-of-map), c .pre .1, refl, refl)
 
-mul-e : tie.Need-mul-e Inv-loop μ-loop
-mul-e c = omega arith
-
-element-copy-out-e : tie.Need-element-copy-out-e Inv-loop μ-loop
-element-copy-out-e c = omega arith
-
-mul-at : tie.Need-mul-at Inv-loop μ-loop
-mul-at c = omega arith
-
-mul-out : tie.Need-mul-out Inv-loop μ-loop
-mul-out c = omega arith
-
-slice-write-out : tie.Need-slice-write-out Inv-loop μ-loop
-slice-write-out c = omega arith
-
-add-out : tie.Need-add-out Inv-loop μ-loop
-add-out c = omega arith
-
-mul-out-2 : tie.Need-mul-out-2 Inv-loop μ-loop
-mul-out-2 c = omega arith
-
 slice-write-out-2 : tie.Need-slice-write-out-2 Inv-loop μ-loop
 slice-write-out-2 c = simp length-set (omega arith)
-
-add-out-2 : tie.Need-add-out-2 Inv-loop μ-loop
-add-out-2 c = omega arith
-
-mul-out-3 : tie.Need-mul-out-3 Inv-loop μ-loop
-mul-out-3 c = omega arith
 
 slice-write-out-3 : tie.Need-slice-write-out-3 Inv-loop μ-loop
 slice-write-out-3 c = simp length-set (omega arith)
 
-add-out-3 : tie.Need-add-out-3 Inv-loop μ-loop
-add-out-3 c = omega arith
-
-mul-out-4 : tie.Need-mul-out-4 Inv-loop μ-loop
-mul-out-4 c = omega arith
-
 slice-write-out-4 : tie.Need-slice-write-out-4 Inv-loop μ-loop
 slice-write-out-4 c = simp length-set (omega arith)
 
-add-i : tie.Need-add-i Inv-loop μ-loop
-add-i c = omega arith
-
-loop-less : tie.Need-loop-less Inv-loop μ-loop
-loop-less c = omega arith
-
 loop-again : tie.Need-loop-again Inv-loop μ-loop
 loop-again c =
-    let v = c .before .before .loop .inv in
-    (omega arith, v .1, v .2, v .3, v .4, simp length-set (v .5), flat-more (c .before .before .loop .out) (c .before .before .before .args .t1 .list) (c .before .before .loop .i) (omega arith) (omega arith) (v .6))
+    let loop = c .before .before .loop in let args = c .before .before .before .args in
+    let v = loop .inv in
+    (omega arith, v .1, v .2, v .3, v .4, simp length-set (v .5), flat-more (loop .out) (args .t1 .list) (loop .i) (omega arith) (omega arith) (v .6))
 
 same-length : tie.Need-same-length Inv-loop μ-loop
 same-length c = c .before .loop .inv .5
@@ -83,27 +46,7 @@ returns c =
 
 pub flatten-spec : {M : Type 1} → statement M
 flatten-spec =
-    tie.close
-    (tie.spec
-    Inv-loop
-    μ-loop
-    loop-holds
-    mul-e
-    element-copy-out-e
-    mul-at
-    mul-out
-    slice-write-out
-    add-out
-    mul-out-2
-    slice-write-out-2
-    add-out-2
-    mul-out-3
-    slice-write-out-3
-    add-out-3
-    mul-out-4
-    slice-write-out-4
-    add-i
-    loop-less
-    loop-again
-    same-length
-    returns)
+    tie.close (
+    tie.spec Inv-loop μ-loop loop-holds (λ c. omega arith) (λ c. omega arith) (λ c. omega arith) (λ c. omega arith) (λ c. omega arith)
+    (λ c. omega arith) (λ c. omega arith) slice-write-out-2 (λ c. omega arith) (λ c. omega arith) slice-write-out-3 (λ c. omega arith)
+    (λ c. omega arith) slice-write-out-4 (λ c. omega arith) (λ c. omega arith) loop-again same-length returns)

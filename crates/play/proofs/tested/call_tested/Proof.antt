@@ -13,21 +13,6 @@ use borrow.Author.Needs.{needs}
 use Rattle.play.proofs.tested.call_tested.Statement.{statement}
 use Rattle.play.proofs.tested.call_tested.Tie as tie
 
-slice-aggregate-judge : tie.Need-slice-aggregate-judge
-slice-aggregate-judge c = search needs
-
-judge-requires : tie.Need-judge-requires
-judge-requires c κs = search needs
-
-size-of-requires : tie.Need-size-of-requires
-size-of-requires c κs = search needs
-
-slice-aggregate-plan : tie.Need-slice-aggregate-plan
-slice-aggregate-plan c = search needs
-
-slice-aggregate-plan-2 : tie.Need-slice-aggregate-plan-2
-slice-aggregate-plan-2 c = search needs
-
 plan-requires : tie.Need-plan-requires
 plan-requires c κs =
     let judged = c .before .before .before .before .before in
@@ -42,12 +27,6 @@ plan-requires c κs =
       ),
       omega arith,
     )
-
-cast-result : tie.Need-cast-result
-cast-result c = search needs
-
-same-length : tie.Need-same-length
-same-length c = search needs
 
 returns : tie.Need-returns
 returns c =
@@ -67,12 +46,6 @@ returns c =
           (start .pre .0 .2) (judged .judge .ensures) after (told .plan) (c .if1 .taken),
     )
 
-slice-aggregate-flatten : tie.Need-slice-aggregate-flatten
-slice-aggregate-flatten c = search needs
-
-flatten-requires : tie.Need-flatten-requires
-flatten-requires c κs = search needs
-
 store-history-requires : tie.Need-store-history-requires
 store-history-requires c κs =
     let planned = c .before .before .before .before .before .before in
@@ -82,17 +55,12 @@ store-history-requires c κs =
 store-shown-requires : tie.Need-store-shown-requires
 store-shown-requires c κs =
     let stored = c .before .before .before .store-history in
-    let accepted = c .before .before .before .before .before .before .before .before .if1 .left in
+    let if1 = c .before .before .before .before .before .before .before .before .if1 in
+    let accepted = if1 .left in
     let planned = c .before .before .before .before .before .before .before .before .before .before in
     let start = planned .before .before .before .before .before .before .before .before .before .before .before .before .before .before in
     let long : 450 ≤ length (stored .last .0) = omega (arith, stored .kept .0, start .pre .0 .2) in
     (long, planned .plan .ensures .few, planned .plan .ensures .storable accepted .1)
-
-slice-aggregate-rebuild : tie.Need-slice-aggregate-rebuild
-slice-aggregate-rebuild c = search needs
-
-slice-aggregate-rebuild-2 : tie.Need-slice-aggregate-rebuild-2
-slice-aggregate-rebuild-2 c = search needs
 
 rebuild-requires : tie.Need-rebuild-requires
 rebuild-requires c κs =
@@ -117,21 +85,13 @@ rebuild-requires c κs =
     let few : strips (a .r) ≤ length marked = omega (arith, planned .plan .kept .1 .1 .1 .1 .1 .0, sound .widest) in
     ((start .pre .0 .0, all, few), start .pre .1)
 
-same-length-2 : tie.Need-same-length-2
-same-length-2 c = search needs
-
-same-length-3 : tie.Need-same-length-3
-same-length-3 c = search needs
-
-same-length-4 : tie.Need-same-length-4
-same-length-4 c = search needs
-
 returns-2 : tie.Need-returns-2
 returns-2 c =
-    let done = c .before .before .before .before .rebuild in
-    let listed = c .before .before .before .before .before .before .before .before .before .before .before .store-shown in
-    let stored = c .before .before .before .before .before .before .before .before .before .before .before .before .before .before .before .store-history in
-    let flattened = c .before .before .before .before .before .before .before .before .before .before .before .before .before .before .before .before .before .before in
+    let at-rebuild = c .before .before .before .before in let done = at-rebuild .rebuild in
+    let at-store-shown = at-rebuild .before .before .before .before .before .before .before in let listed = at-store-shown .store-shown in
+    let stored = at-store-shown .before .before .before .before .store-history in
+    let flattened =
+    c .before .before .before .before .before .before .before .before .before .before .before .before .before .before .before .before .before .before in
     let flat = flattened .flatten in
     let accepted = flattened .before .before in
     let y = accepted .if1 .left in
@@ -157,25 +117,7 @@ returns-2 c =
 
 pub call-tested-spec : {M : Type 1} → statement M
 call-tested-spec =
-    tie.close
-    (tie.spec
-    slice-aggregate-judge
-    judge-requires
-    size-of-requires
-    slice-aggregate-plan
-    slice-aggregate-plan-2
-    plan-requires
-    cast-result
-    same-length
-    returns
-    slice-aggregate-flatten
-    flatten-requires
-    store-history-requires
-    store-shown-requires
-    slice-aggregate-rebuild
-    slice-aggregate-rebuild-2
-    rebuild-requires
-    same-length-2
-    same-length-3
-    same-length-4
-    returns-2)
+    tie.close (
+    tie.spec (λ c. search needs) (λ c κs. search needs) (λ c κs. search needs) (λ c. search needs) (λ c. search needs) plan-requires
+    (λ c. search needs) (λ c. search needs) returns (λ c. search needs) (λ c κs. search needs) store-history-requires store-shown-requires
+    (λ c. search needs) (λ c. search needs) rebuild-requires (λ c. search needs) (λ c. search needs) (λ c. search needs) returns-2)

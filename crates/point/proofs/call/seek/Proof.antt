@@ -17,19 +17,35 @@ fill-states-requires : tie.Need-fill-states-requires
 fill-states-requires c κs = (c .before .before .before .before .before .before .before .pre .1 .2, omega arith)
 
 lowest-hit-requires : tie.Need-lowest-hit-requires
-lowest-hit-requires c κs = (omega (arith, c .before .before .before .before .before .before .before .before .list-objects .kept .1 .1 .0), omega (arith, c .before .before .before .before .before .fill-states .kept .1 .0), c .before .before .before .before .before .before .before .before .before .before .before .before .before .pre .1 .0, c .before .before .before .before .before .before .before .before .before .before .before .before .before .pre .0 .1, omega (arith, c .before .before .count .ensures .0, c .before .before .before .before .before .before .before .before .before .before .before .before .before .pre .1 .1), c .before .before .before .before .before .before .before .before .before .before .before .before .before .pre .0 .2)
+lowest-hit-requires c κs =
+    let count = c .before .before .count in let at-fill-states = c .before .before .before .before .before in
+    let fill-states = at-fill-states .fill-states in let list-objects = at-fill-states .before .before .before .list-objects in
+    let pre = at-fill-states .before .before .before .before .before .before .before .before .pre in (
+      omega (arith, list-objects .kept .1 .1 .0),
+      omega (arith, fill-states .kept .1 .0),
+      pre .1 .0,
+      pre .0 .1,
+      omega (arith, count .ensures .0, pre .1 .1),
+      pre .0 .2,
+    )
 
 returns : tie.Need-returns
-returns c = λ d.
-    let a = c .before .before .before .before .before .before .before .before .before .before .before .before .before .before .args in
-    let t = c .before .before .before .before .before .before .before .before .before .list-objects .last .1 .1 .0 in
-    let states = c .before .before .before .before .before .before .fill-states .last .1 .0 in
+returns c =
+    let count = c .before .before .before .count in let at-fill-states = c .before .before .before .before .before .before in
+    let fill-states = at-fill-states .fill-states in let list-objects = at-fill-states .before .before .before .list-objects in
+    let start = at-fill-states .before .before .before .before .before .before .before .before in let a = start .args in
+    let pre = start .pre in
+    λ d.
+    let t = list-objects .last .1 .1 .0 in
+    let states = fill-states .last .1 .0 in
     c .lowest-hit .ensures
-    ∙ ap (λ (n : ℕ). lowest (hitIn t states (a .size) (down (stepAt (now (a .session))) n) (now (a .flags)) (a .x) (a .y)) 1 (a .size .count)) (c .before .before .before .count .ensures .0)
-    ∙ sym (object-told (now (a .room)) _ t (c .before .before .before .before .before .before .before .before .before .list-objects .ensures .1) (a .size) (c .before .before .before .before .before .before .before .before .before .before .before .before .before .before .pre .0 .0) (c .before .before .before .before .before .before .before .before .before .before .before .before .before .before .pre .0 .1 .2) (entries (a .shown)) states (c .before .before .before .before .before .before .fill-states .ensures) d (stepsOf (now (a .session))) (now (a .flags)) (a .x) (a .y))
+    ∙ ap (λ (n : ℕ). lowest (hitIn t states (a .size) (down (stepAt (now (a .session))) n) (now (a .flags)) (a .x) (a .y)) 1 (a .size .count))
+    (count .ensures .0)
+    ∙ sym (object-told (now (a .room)) _ t (list-objects .ensures .1) (a .size) (pre .0 .0) (pre .0 .1 .2) (entries (a .shown)) states (fill-states .ensures) d
+    (stepsOf (now (a .session))) (now (a .flags)) (a .x) (a .y))
 
 pub seek-spec : {M : Type 1} → statement M
 seek-spec =
-    tie.close
-    (tie.spec (λ c. search needs) list-objects-requires (λ c. search needs) fill-states-requires (λ c. search needs) (λ c κs. search needs)
+    tie.close (
+    tie.spec (λ c. search needs) list-objects-requires (λ c. search needs) fill-states-requires (λ c. search needs) (λ c κs. search needs)
     (λ c. search needs) (λ c. search needs) lowest-hit-requires returns)

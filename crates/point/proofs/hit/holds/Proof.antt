@@ -13,9 +13,14 @@ spans-requires-2 : tie.Need-spans-requires-2
 spans-requires-2 c κs = (c .before .before .before .last-place .ensures [] .upper, c .before .cell2 .ensures .1)
 
 returns : tie.Need-returns
-returns c = (λ i. c .before .spans .ensures i && c .spans2 .ensures i) ∙ holds-told _ _ _ _ _ _ (c .before .before .before .before .before .before .before .pre .4) (c .before .before .before .before .before .before .before .pre .5) _ _ _ (c .before .before .before .before .last-place .ensures []) (c .before .before .before .cell .ensures .0) (c .before .before .cell2 .ensures .0)
+returns c =
+    let cell2 = c .before .before .cell2 in let cell = c .before .before .before .cell in
+    let at-last-place = c .before .before .before .before in let last-place = at-last-place .last-place in
+    let pre = at-last-place .before .before .before .pre in
+    (λ i. c .before .spans .ensures i && c .spans2 .ensures i) ∙ holds-told _ _ _ _ _ _ (pre .4) (pre .5) _ _ _ (last-place .ensures []) (cell .ensures .0)
+    (cell2 .ensures .0)
 
 pub holds-spec : {M : Type 1} → statement M
 holds-spec =
-    tie.close
-    (tie.spec (λ c κs. search needs) (λ c κs. search needs) (λ c κs. search needs) spans-requires spans-requires-2 returns)
+    tie.close (
+    tie.spec (λ c κs. search needs) (λ c κs. search needs) (λ c κs. search needs) spans-requires spans-requires-2 returns)

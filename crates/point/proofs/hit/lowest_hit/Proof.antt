@@ -9,7 +9,9 @@ use Rattle.point.proofs.hit.lowest_hit.Statement.{statement}
 use Rattle.point.proofs.hit.lowest_hit.Tie as tie
 
 abbrev Inv-loop : tie.InvT-loop
-Inv-loop boxes states session flags size steps x y count o₀ o = (1 ≤ o) × (o ≤ count + 1) × (count ≡ size .count) × (lowest (hitIn boxes states size (down (stepAt session) steps) flags x y) 1 count ≡ lowest (hitIn boxes states size (down (stepAt session) steps) flags x y) o (suc count - o))
+Inv-loop boxes states session flags size steps x y count o₀ o = (1 ≤ o) × (o ≤ count + 1) × (count ≡ size .count) ×
+    (lowest (hitIn boxes states size (down (stepAt session) steps) flags x y) 1 count ≡ lowest (hitIn boxes states size (down (stepAt session) steps) flags x y)
+    o (suc count - o))
 
 abbrev μ-loop : tie.MeasureT-loop
 μ-loop boxes states session flags size steps x y count o₀ o = count + 1 - o
@@ -19,11 +21,14 @@ loop-holds c = (omega arith, omega arith, refl, ap (lowest _ 1) (omega arith))
 
 is-hit-requires : tie.Need-is-hit-requires Inv-loop μ-loop
 is-hit-requires c κs =
+    let pre = c .before .before .before .before .before .before .pre in
     let v = c .before .loop .inv in
-    (c .before .before .before .before .before .before .pre .0, c .before .before .before .before .before .before .pre .1, c .before .before .before .before .before .before .pre .2, c .before .before .before .before .before .before .pre .3, c .before .before .before .before .before .before .pre .4, v .0, omega arith, c .before .before .before .before .before .before .pre .5)
+    (pre .0, pre .1, pre .2, pre .3, pre .4, v .0, omega arith, pre .5)
 
 cast-result : tie.Need-cast-result Inv-loop μ-loop
-cast-result c = omega (arith, c .before .before .before .before .before .before .before .before .pre .3 .2)
+cast-result c =
+    let pre = c .before .before .before .before .before .before .before .before .pre in
+    omega (arith, pre .3 .2)
 
 returns : tie.Need-returns Inv-loop μ-loop
 returns c =
@@ -31,10 +36,9 @@ returns c =
     lowest-hit _ _ _ (omega arith) (v .3) _ (c .before .is-hit .ensures) (c .if1 .taken)
 
 add-o : tie.Need-add-o Inv-loop μ-loop
-add-o c = omega (arith, c .before .before .before .before .before .before .before .before .pre .3 .2)
-
-loop-less : tie.Need-loop-less Inv-loop μ-loop
-loop-less c = omega arith
+add-o c =
+    let pre = c .before .before .before .before .before .before .before .before .pre in
+    omega (arith, pre .3 .2)
 
 loop-again : tie.Need-loop-again Inv-loop μ-loop
 loop-again c =
@@ -48,5 +52,5 @@ returns-2 c =
 
 pub lowest-hit-spec : {M : Type 1} → statement M
 lowest-hit-spec =
-    tie.close
-    (tie.spec Inv-loop μ-loop loop-holds is-hit-requires cast-result returns add-o loop-less loop-again returns-2)
+    tie.close (
+    tie.spec Inv-loop μ-loop loop-holds is-hit-requires cast-result returns add-o (λ c. omega arith) loop-again returns-2)

@@ -41,17 +41,14 @@ entry-strip-requires c κs =
       (omega (arith, start .pre .1 .0, inv .1), omega (arith, start .pre .1 .1, inv .2)),
     )
 
-add-i : tie.Need-add-i Inv-loop μ-loop
-add-i c = omega arith
-
-loop-less : tie.Need-loop-less Inv-loop μ-loop
-loop-less c = omega arith
-
 loop-again : tie.Need-loop-again Inv-loop μ-loop
 loop-again c =
-    let inv = c .before .before .before .before .before .before .before .before .before .loop .inv in
-    let is = c .before .before .before .before .before .before .before .entry-at .ensures in
-    let call = c .before .before .before .before .entry-strip in (
+    let at-entry-strip = c .before .before .before .before in let entry-strip = at-entry-strip .entry-strip in
+    let entry-at = at-entry-strip .before .before .before .entry-at in
+    let loop = at-entry-strip .before .before .before .before .before .loop in
+    let inv = loop .inv in
+    let is = entry-at .ensures in
+    let call = entry-strip in (
       omega arith,
       call .kept .1 .1 .1 .1 .1 .0 ∙ inv .1,
       call .kept .1 .1 .1 .1 .1 .1 .0 ∙ inv .2,
@@ -73,16 +70,6 @@ returns c =
 
 pub entries-strip-spec : {M : Type 1} → statement M
 entries-strip-spec =
-    tie.close
-    (tie.spec
-    Inv-loop
-    μ-loop
-    loop-holds
-    entry-at-requires
-    entry-strip-requires
-    add-i
-    loop-less
-    loop-again
-    same-length
-    same-length-2
-    returns)
+    tie.close (
+    tie.spec Inv-loop μ-loop loop-holds entry-at-requires entry-strip-requires (λ c. omega arith) (λ c. omega arith) loop-again same-length
+    same-length-2 returns)

@@ -16,20 +16,11 @@ covers-strip-requires c κs =
     let fit = entry-fits _ _ _ (start .pre .0 .1) in
     (omega (arith, fit .last, table .few), table .long)
 
-cast-source-of : tie.Need-cast-source-of
-cast-source-of c = search needs
-
-cast-source-of-2 : tie.Need-cast-source-of-2
-cast-source-of-2 c = search needs
-
 source-of-requires : tie.Need-source-of-requires
 source-of-requires c κs =
     let start = c .before .before .before .before .before .before .before .before in
     let fit = entry-fits _ _ _ (start .pre .0 .1) in
     ((start .pre .0 .0 .gathered, fit .first, fit .last, fit .state), fit .smap)
-
-cast-j : tie.Need-cast-j
-cast-j c = search needs
 
 sub-j : tie.Need-sub-j
 sub-j c =
@@ -39,9 +30,6 @@ sub-j c =
     let by-table = c .before .before .before .before .before .covers-strip .ensures in
     let on = entry-covers _ _ e can _ _ _ (start .pre .0 .0 .gathered) by-table ∙ c .before .before .before .before .if1 .taken in
     covers-in _ _ e can _ on .0
-
-cast-y : tie.Need-cast-y
-cast-y c = search needs
 
 put-strip-requires : tie.Need-put-strip-requires
 put-strip-requires c κs =
@@ -56,21 +44,17 @@ put-strip-requires c κs =
 
 put-planes-requires : tie.Need-put-planes-requires
 put-planes-requires c κs =
+    let at-source-of = c .before .before .before .before .before .before .before in let source-of = at-source-of .source-of in
+    let if1 = at-source-of .before .before .before .if1 in let covers-strip = at-source-of .before .before .before .before .covers-strip in
     let start = c .before .before .before .before .before .before .before .before .before .before .before .before .before .before .before .before in
     let e = start .args .e in
     let ready = start .pre .0 .0 in
     let can = start .pre .0 .1 in
-    let by-table = c .before .before .before .before .before .before .before .before .before .before .before .covers-strip .ensures in
-    let taken = c .before .before .before .before .before .before .before .before .before .before .if1 .taken in
+    let by-table = covers-strip .ensures in
+    let taken = if1 .taken in
     let on = entry-covers _ _ e can _ _ _ (ready .gathered) by-table ∙ taken in
-    let here = covering _ _ e can _ (c .before .before .before .before .before .before .before .source-of .ensures) (ready .sound) _ on in
+    let here = covering _ _ e can _ (source-of .ensures) (ready .sound) _ on in
     ((ready .sound, here .readable, here .strip), (here .planes, (start .pre .0 .2, here .low, start .pre .1 .1)))
-
-same-length : tie.Need-same-length
-same-length c = search needs
-
-same-length-2 : tie.Need-same-length-2
-same-length-2 c = search needs
 
 returns : tie.Need-returns
 returns c =
@@ -101,18 +85,6 @@ returns-2 c =
 
 pub entry-strip-spec : {M : Type 1} → statement M
 entry-strip-spec =
-    tie.close
-    (tie.spec
-    covers-strip-requires
-    cast-source-of
-    cast-source-of-2
-    source-of-requires
-    cast-j
-    sub-j
-    cast-y
-    put-strip-requires
-    put-planes-requires
-    same-length
-    same-length-2
-    returns
-    returns-2)
+    tie.close (
+    tie.spec covers-strip-requires (λ c. search needs) (λ c. search needs) source-of-requires (λ c. search needs) sub-j (λ c. search needs)
+    put-strip-requires put-planes-requires (λ c. search needs) (λ c. search needs) returns returns-2)

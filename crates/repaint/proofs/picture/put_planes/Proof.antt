@@ -42,12 +42,6 @@ put-plane-requires c κs =
       ),
     )
 
-add-p : tie.Need-add-p Inv-loop μ-loop
-add-p c = omega arith
-
-loop-less : tie.Need-loop-less Inv-loop μ-loop
-loop-less c = omega arith
-
 loop-again : tie.Need-loop-again Inv-loop μ-loop
 loop-again c =
     let start = c .before .before .before .before .before .before .before .before in
@@ -74,14 +68,5 @@ returns c =
 
 pub put-planes-spec : {M : Type 1} → statement M
 put-planes-spec =
-    tie.close
-    (tie.spec
-    Inv-loop
-    μ-loop
-    loop-holds
-    put-plane-requires
-    add-p
-    loop-less
-    loop-again
-    same-length
-    returns)
+    tie.close (
+    tie.spec Inv-loop μ-loop loop-holds put-plane-requires (λ c. omega arith) (λ c. omega arith) loop-again same-length returns)

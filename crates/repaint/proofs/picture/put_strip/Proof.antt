@@ -7,45 +7,21 @@ use borrow.Author.Needs.{needs}
 use Rattle.repaint.proofs.picture.put_strip.Statement.{statement}
 use Rattle.repaint.proofs.picture.put_strip.Tie as tie
 
-slice-aggregate-read-strip : tie.Need-slice-aggregate-read-strip
-slice-aggregate-read-strip c = search needs
-
 read-strip-requires : tie.Need-read-strip-requires
 read-strip-requires c κs =
     let p = c .before .before .before .pre .0 in
     ((p .2, p .1 .narrow, p .1 .smap-in, p .1 .smap-last), (strip-table _ _ _ (p .1) (p .2), (p .1 .low, omega arith)))
 
-enum-known-clear : tie.Need-enum-known-clear
-enum-known-clear c = search needs
-
-slice-aggregate-blit-strip : tie.Need-slice-aggregate-blit-strip
-slice-aggregate-blit-strip c = search needs
-
-blit-strip-requires : tie.Need-blit-strip-requires
-blit-strip-requires c κs = search needs
-
-slice-aggregate-none-clear : tie.Need-slice-aggregate-none-clear
-slice-aggregate-none-clear c = search needs
-
-mul-none-clear : tie.Need-mul-none-clear
-mul-none-clear c = search needs
-
-none-clear-requires : tie.Need-none-clear-requires
-none-clear-requires c κs = search needs
-
-enum-told : tie.Need-enum-told
-enum-told c = search needs
-
-same-length : tie.Need-same-length
-same-length c = search needs
-
 returns : tie.Need-returns
 returns c =
+    let at-blit-strip = c .before .before .before .before in let blit-strip = at-blit-strip .blit-strip in
+    let at-clear = at-blit-strip .before .before .before .before in let clear = at-clear .clear in
+    let read-strip = at-clear .before .before .before .read-strip in
     let start = c .before .before .before .before .before .before .before .before .before .before .before .before .before .before .before in
     let p = start .pre .0 in
-    let read = c .before .before .before .before .before .before .before .before .before .before .before .read-strip .ensures in
-    let drawn = c .before .before .before .before .before .before .before .before .clear .given .1 in
-    let blit = c .before .before .before .before .blit-strip .ensures in (
+    let read = read-strip .ensures in
+    let drawn = clear .given .1 in
+    let blit = blit-strip .ensures in (
       c .none-clear .ensures ∙ read-none-clear _ _ _ (p .1) (p .2) _ _ _ read _ drawn,
       box-same _ _ _ _ _ _ _ _ _ (λ x q o lx lq. read-over _ _ _ (p .1) (p .2) _ _ _ read _ drawn _ o (omega arith)) blit,
     )
@@ -58,17 +34,6 @@ returns-2 c =
 
 pub put-strip-spec : {M : Type 1} → statement M
 put-strip-spec =
-    tie.close
-    (tie.spec
-    slice-aggregate-read-strip
-    read-strip-requires
-    enum-known-clear
-    slice-aggregate-blit-strip
-    blit-strip-requires
-    slice-aggregate-none-clear
-    mul-none-clear
-    none-clear-requires
-    enum-told
-    same-length
-    returns
-    returns-2)
+    tie.close (
+    tie.spec (λ c. search needs) read-strip-requires (λ c. search needs) (λ c. search needs) (λ c κs. search needs) (λ c. search needs)
+    (λ c. search needs) (λ c κs. search needs) (λ c. search needs) (λ c. search needs) returns returns-2)

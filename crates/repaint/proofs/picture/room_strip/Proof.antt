@@ -1,6 +1,6 @@
 -- `repaint::picture::room_strip` meets its contract. Assumes nothing.
 use native.Mathlib.Omega.{arith}
-use mathlib.Core.Path.{refl, sym, _∙_}
+use mathlib.Core.Path.{refl}
 use Rattle.load.proofs.LoadLaws.{background-passes, plane-passes}
 use Rattle.table.proofs.BlockLaws.{block-table, block-strip}
 use Rattle.layers.proofs.PaintLaws.{width-is, fresh-pixels, fresh-masks}
@@ -40,12 +40,6 @@ put-planes-requires c κs =
       (plane-passes _ _ passed, (here, omega arith, start .pre .1 .1)),
     )
 
-same-length : tie.Need-same-length
-same-length c = search needs
-
-same-length-2 : tie.Need-same-length-2
-same-length-2 c = search needs
-
 returns : tie.Need-returns
 returns c =
     let start = c .before .before .before .before .before .before .before .before .before .before .before .before .before in
@@ -58,4 +52,5 @@ returns c =
 
 pub room-strip-spec : {M : Type 1} → statement M
 room-strip-spec =
-    tie.close (tie.spec paint-strip-requires put-planes-requires same-length same-length-2 returns)
+    tie.close (
+    tie.spec paint-strip-requires put-planes-requires (λ c. search needs) (λ c. search needs) returns)

@@ -5,22 +5,15 @@ use borrow.Author.Needs.{needs}
 use Rattle.replay.proofs.history.moved.Statement.{statement}
 use Rattle.replay.proofs.history.moved.Tie as tie
 
-enum-told : tie.Need-enum-told
-enum-told c = search needs
-
-enum-known-step : tie.Need-enum-known-step
-enum-known-step c = search needs
-
-placed-requires : tie.Need-placed-requires
-placed-requires c κs = search needs
-
 returns : tie.Need-returns
 unfolding moves
 returns c = λ sc h. rw (c .enum-told .given .1) h
 
 returns-2 : tie.Need-returns-2
 unfolding moves
-returns-2 c = λ sc h. rw (c .before .before .before .step .given .1, eq-eqb _ _ (c .before .if1 .taken)) (c .placed .ensures sc _ (rw (c .before .if1 .taken) at h))
+returns-2 c =
+    let if1 = c .before .if1 in let step = c .before .before .before .step in
+    λ sc h. rw (step .given .1, eq-eqb _ _ (if1 .taken)) (c .placed .ensures sc _ (rw (if1 .taken) at h))
 
 returns-3 : tie.Need-returns-3
 unfolding moves
@@ -28,4 +21,5 @@ returns-3 c = λ sc h. rw (c .before .before .step .given .1, ne-eqb _ _ (c .if1
 
 pub moved-spec : {M : Type 1} → statement M
 moved-spec =
-    tie.close (tie.spec enum-told enum-known-step placed-requires returns returns-2 returns-3)
+    tie.close (
+    tie.spec (λ c. search needs) (λ c. search needs) (λ c κs. search needs) returns returns-2 returns-3)

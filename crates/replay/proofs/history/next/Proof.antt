@@ -10,8 +10,9 @@ use Rattle.replay.proofs.history.next.Tie as tie
 
 returns : tie.Need-returns
 returns c =
-    let A = c .before .before .before .before .before .args in
-    next-refused (roomOfTables (A .objects .now) (A .verdicts .now) (A .size)) (down (stepAt (A .session .now)) (A .upto)) (A .step) (A .s) (c .before .before .before .before .before .pre .5) (c .if1 .taken)
+    let start = c .before .before .before .before .before in let A = start .args in let pre = start .pre in
+    next-refused (roomOfTables (A .objects .now) (A .verdicts .now) (A .size)) (down (stepAt (A .session .now)) (A .upto)) (A .step) (A .s) (pre .5)
+    (c .if1 .taken)
 
 step-on-requires : tie.Need-step-on-requires
 step-on-requires c κs =
@@ -22,8 +23,10 @@ step-on-requires c κs =
 
 returns-2 : tie.Need-returns-2
 returns-2 c =
-    let A = c .before .before .before .before .before .before .args in
-    next-step (roomOfTables (A .objects .now) (A .verdicts .now) (A .size)) (down (stepAt (A .session .now)) (A .upto)) (A .step) (A .s) (c .before .before .before .before .before .before .pre .5) (c .before .if1 .left) (c .step-on .result) (A .upto) (sym (length-down (stepAt (A .session .now)) (A .upto))) (c .step-on .ensures .0) (c .step-on .ensures .1)
+    let start = c .before .before .before .before .before .before in let A = start .args in let pre = start .pre in
+    next-step (roomOfTables (A .objects .now) (A .verdicts .now) (A .size)) (down (stepAt (A .session .now)) (A .upto)) (A .step) (A .s) (pre .5)
+    (c .before .if1 .left) (c .step-on .result) (A .upto) (sym (length-down (stepAt (A .session .now)) (A .upto))) (c .step-on .ensures .0)
+    (c .step-on .ensures .1)
 
 pub next-spec : {M : Type 1} → statement M
 next-spec = tie.close (tie.spec returns step-on-requires returns-2)

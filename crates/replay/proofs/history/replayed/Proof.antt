@@ -22,37 +22,33 @@ empty-requires c κs = tt
 
 loop-holds : tie.Need-loop-holds Inv-loop μ-loop
 unfolding replays replay bare
-loop-holds c = (omega arith, c .before .before .before .before .pre .0, record { right = eq-eqb (c .empty .result .refusal) 0 (c .empty .ensures .2); list = λ q. c .empty .ensures .0; few = omega (arith, c .empty .ensures .1) })
-
-step-at-requires : tie.Need-step-at-requires Inv-loop μ-loop
-step-at-requires c κs = omega arith
+loop-holds c =
+    let pre = c .before .before .before .before .pre in (
+      omega arith,
+      pre .0,
+      record {
+        right = eq-eqb (c .empty .result .refusal) 0 (c .empty .ensures .2);
+        list = λ q. c .empty .ensures .0;
+        few = omega
+            (arith, c .empty .ensures .1);
+      },
+    )
 
 next-requires : tie.Need-next-requires Inv-loop μ-loop
-next-requires c κs = let p = c .before .before .before .before .before .before .before .pre in (omega arith, p .1, p .2, p .3, p .4, c .before .before .loop .inv .2)
-
-add-i : tie.Need-add-i Inv-loop μ-loop
-add-i c = omega arith
-
-loop-less : tie.Need-loop-less Inv-loop μ-loop
-loop-less c = omega arith
+next-requires c κs =
+    let loop = c .before .before .loop in let pre = c .before .before .before .before .before .before .before .pre in
+    let p = pre in (omega arith, p .1, p .2, p .3, p .4, loop .inv .2)
 
 loop-again : tie.Need-loop-again Inv-loop μ-loop
-loop-again c = (omega arith, c .before .before .before .loop .inv .1, rw (add-one (c .before .before .before .loop .i), ← c .before .step-at .ensures) (c .next .ensures))
+loop-again c =
+    let loop = c .before .before .before .loop in
+    (omega arith, loop .inv .1, rw (add-one (loop .i), ← c .before .step-at .ensures) (c .next .ensures))
 
 returns : tie.Need-returns Inv-loop μ-loop
 returns c = let e : c .before .loop .i ≡ c .before .before .before .before .before .before .args .upto = omega arith in rw (← e) (c .before .loop .inv .2)
 
 pub replayed-spec : {M : Type 1} → statement M
 replayed-spec =
-    tie.close
-    (tie.spec
-    Inv-loop
-    μ-loop
-    empty-requires
-    loop-holds
-    step-at-requires
-    next-requires
-    add-i
-    loop-less
-    loop-again
+    tie.close (
+    tie.spec Inv-loop μ-loop empty-requires loop-holds (λ c κs. omega arith) next-requires (λ c. omega arith) (λ c. omega arith) loop-again
     returns)

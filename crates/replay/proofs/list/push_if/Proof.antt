@@ -8,15 +8,6 @@ use borrow.Author.Needs.{needs}
 use Rattle.replay.proofs.list.push_if.Statement.{statement}
 use Rattle.replay.proofs.list.push_if.Tie as tie
 
-mul-e : tie.Need-mul-e
-mul-e c = search needs
-
-element-set-from-e : tie.Need-element-set-from-e
-element-set-from-e c = search needs
-
-add-t : tie.Need-add-t
-add-t c = search needs
-
 returns : tie.Need-returns
 returns c =
     let S = c .before .args .s in
@@ -27,4 +18,4 @@ returns-2 : tie.Need-returns-2
 returns-2 c = (rw (c .if1 .left), omega arith, refl)
 
 pub push-if-spec : {M : Type 1} → statement M
-push-if-spec = tie.close (tie.spec mul-e element-set-from-e add-t returns returns-2)
+push-if-spec = tie.close (tie.spec (λ c. search needs) (λ c. search needs) (λ c. search needs) returns returns-2)

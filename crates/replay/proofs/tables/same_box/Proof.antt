@@ -5,22 +5,14 @@ use borrow.Author.Needs.{needs}
 use Rattle.replay.proofs.tables.same_box.Statement.{statement}
 use Rattle.replay.proofs.tables.same_box.Tie as tie
 
-cell-requires : tie.Need-cell-requires
-cell-requires c κs = search needs
-
-cell-requires-2 : tie.Need-cell-requires-2
-cell-requires-2 c κs = search needs
-
-cell-requires-3 : tie.Need-cell-requires-3
-cell-requires-3 c κs = search needs
-
-cell-requires-4 : tie.Need-cell-requires-4
-cell-requires-4 c κs = search needs
-
 returns : tie.Need-returns
 unfolding sameBox roomOfTables
-returns c = λ v. rw (c .before .before .before .before .before .before .before .cell .ensures .0, c .before .before .before .before .before .before .cell2 .ensures .0, c .before .before .before .before .before .cell3 .ensures .0, c .before .before .before .before .cell4 .ensures .0)
+returns c =
+    let at-cell4 = c .before .before .before .before in let cell4 = at-cell4 .cell4 in let cell3 = at-cell4 .before .cell3 in
+    let cell2 = at-cell4 .before .before .cell2 in let cell = at-cell4 .before .before .before .cell in
+    λ v. rw (cell .ensures .0, cell2 .ensures .0, cell3 .ensures .0, cell4 .ensures .0)
 
 pub same-box-spec : {M : Type 1} → statement M
 same-box-spec =
-    tie.close (tie.spec cell-requires cell-requires-2 cell-requires-3 cell-requires-4 returns)
+    tie.close (
+    tie.spec (λ c κs. search needs) (λ c κs. search needs) (λ c κs. search needs) (λ c κs. search needs) returns)

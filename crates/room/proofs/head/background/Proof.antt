@@ -34,6 +34,6 @@ returns-3 c =
 
 pub background-spec : {M : Type 1} → statement M
 background-spec =
-    tie.close
-    (tie.spec (λ c κs. search needs) (λ c. search needs) (λ c. search needs) returns find-tag-requires (λ c. search needs)
+    tie.close (
+    tie.spec (λ c κs. search needs) (λ c. search needs) (λ c. search needs) returns find-tag-requires (λ c. search needs)
     (λ c. search needs) returns-2 returns-3)

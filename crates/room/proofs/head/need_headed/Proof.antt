@@ -26,6 +26,6 @@ returns-3 c =
 
 pub need-headed-spec : {M : Type 1} → statement M
 need-headed-spec =
-    tie.close
-    (tie.spec (λ c κs. search needs) (λ c. search needs) (λ c. search needs) returns (λ c κs. search needs) (λ c. search needs)
+    tie.close (
+    tie.spec (λ c κs. search needs) (λ c. search needs) (λ c. search needs) returns (λ c κs. search needs) (λ c. search needs)
     (λ c. search needs) returns-2 returns-3)

@@ -25,5 +25,5 @@ returns-2 c =
 
 pub needed-spec : {M : Type 1} → statement M
 needed-spec =
-    tie.close
-    (tie.spec (λ c κs. search needs) (λ c. search needs) (λ c. search needs) returns background-requires returns-2)
+    tie.close (
+    tie.spec (λ c κs. search needs) (λ c. search needs) (λ c. search needs) returns background-requires returns-2)

@@ -19,10 +19,12 @@ room-of-requires c κs =
 returns-2 : tie.Need-returns-2
 unfolding headOf
 returns-2 c =
-    let p = sym (c .before .before .before .before .before .p .given .1) ∙ c .before .before .before .before .before .before .before .needed .ensures in
-    let tree = c .before .before .before .before .before .before .before .before .before .well-formed in
-    let formed = not-false (tree .result) (c .before .before .before .before .before .before .before .before .if1 .left) in
-    rw (← tree .ensures, formed, ← p, ← c .before .before .before .objects-right .ensures, c .before .before .if2 .taken, ← c .before .room-of .ensures)
+    let if2 = c .before .before .if2 in let objects-right = c .before .before .before .objects-right in
+    let at-p = c .before .before .before .before .before in let p′ = at-p .p in let needed = at-p .before .before .needed in
+    let if1 = at-p .before .before .before .if1 in let tree = at-p .before .before .before .before .well-formed in
+    let p = sym (p′ .given .1) ∙ needed .ensures in
+    let formed = not-false (tree .result) (if1 .left) in
+    rw (← tree .ensures, formed, ← p, ← objects-right .ensures, if2 .taken, ← c .before .room-of .ensures)
     (c .sized-room .ensures)
 
 returns-3 : tie.Need-returns-3
@@ -43,6 +45,6 @@ returns-4 c =
 
 pub read-head-spec : {M : Type 1} → statement M
 read-head-spec =
-    tie.close
-    (tie.spec (λ c κs. search needs) returns (λ c κs. search needs) (λ c. search needs) (λ c κs. search needs) room-of-requires
+    tie.close (
+    tie.spec (λ c κs. search needs) returns (λ c κs. search needs) (λ c. search needs) (λ c κs. search needs) room-of-requires
     (λ c κs. search needs) (λ c. search needs) returns-2 returns-3 returns-4)

@@ -6,9 +6,6 @@ use borrow.Author.Needs.{needs}
 use Rattle.room.proofs.picture.test_im.Statement.{statement}
 use Rattle.room.proofs.picture.test_im.Tie as tie
 
-test-block-requires : tie.Need-test-block-requires
-test-block-requires c κs = omega arith
-
 returns : tie.Need-returns
 unfolding imTest
 returns c =
@@ -23,5 +20,5 @@ returns-2 c =
 
 pub test-im-spec : {M : Type 1} → statement M
 test-im-spec =
-    tie.close
-    (tie.spec test-block-requires (λ c. search needs) (λ c κs. search needs) (λ c. search needs) returns returns-2)
+    tie.close (
+    tie.spec (λ c κs. omega arith) (λ c. search needs) (λ c κs. search needs) (λ c. search needs) returns returns-2)

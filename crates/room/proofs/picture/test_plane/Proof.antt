@@ -25,5 +25,5 @@ returns-2 c =
 
 pub test-plane-spec : {M : Type 1} → statement M
 test-plane-spec =
-    tie.close
-    (tie.spec (λ c κs. search needs) (λ c. search needs) test-block-requires (λ c. search needs) returns returns-2)
+    tie.close (
+    tie.spec (λ c κs. search needs) (λ c. search needs) test-block-requires (λ c. search needs) returns returns-2)

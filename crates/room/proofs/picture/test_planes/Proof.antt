@@ -20,15 +20,6 @@ loop-holds c =
     let all : c .before .args .planes + 1 - 1 ≡ c .before .args .planes = omega arith in
     (omega arith, omega arith, rw all)
 
-test-plane-requires : tie.Need-test-plane-requires Inv-loop μ-loop
-test-plane-requires c κs = omega arith
-
-add-k : tie.Need-add-k Inv-loop μ-loop
-add-k c = omega arith
-
-loop-less : tie.Need-loop-less Inv-loop μ-loop
-loop-less c = omega arith
-
 loop-again : tie.Need-loop-again Inv-loop μ-loop
 loop-again c =
     let l = c .before .before .before .before .loop in
@@ -50,6 +41,6 @@ returns-2 c = sym (leftmost-none _ _ _ (omega arith)) ∙ c .before .loop .inv .
 
 pub test-planes-spec : {M : Type 1} → statement M
 test-planes-spec =
-    tie.close
-    (tie.spec Inv-loop μ-loop loop-holds test-plane-requires (λ c. search needs) add-k loop-less loop-again (λ c. search needs) returns
-    returns-2)
+    tie.close (
+    tie.spec Inv-loop μ-loop loop-holds (λ c κs. omega arith) (λ c. search needs) (λ c. omega arith) (λ c. omega arith) loop-again
+    (λ c. search needs) returns returns-2)

@@ -11,9 +11,6 @@ use borrow.Author.Needs.{needs}
 use Rattle.session.proofs.plan.plan_back.Statement.{statement}
 use Rattle.session.proofs.plan.plan_back.Tie as tie
 
-valid-shown-requires : tie.Need-valid-shown-requires
-valid-shown-requires c κs = search needs
-
 returns : tie.Need-returns
 returns c =
     let listed = c .before .before in
@@ -21,15 +18,6 @@ returns c =
     let T = roomOfTables (A .objects .now) (A .verdicts .now) (A .size) in
     let r = listed .valid-shown in
     (plan-wrong T (A .session .now) (r .result) (r .ensures .plan) TakeBack (c .if1 .taken), (r .ensures .few, λ q. absurd (c .if1 .taken q)))
-
-shared-slice-read-count : tie.Need-shared-slice-read-count
-shared-slice-read-count c = search needs
-
-count-requires : tie.Need-count-requires
-count-requires c κs = search needs
-
-refused-requires : tie.Need-refused-requires
-refused-requires c κs = search needs
 
 returns-2 : tie.Need-returns-2
 returns-2 c =
@@ -46,9 +34,6 @@ returns-2 c =
   where
     thirteen : _≡_ {A = ℕ} 13 0 → ⊥
     thirteen q = omega arith
-
-sub-replayed : tie.Need-sub-replayed
-sub-replayed c = search needs
 
 replayed-requires : tie.Need-replayed-requires
 replayed-requires c κs =
@@ -77,14 +62,6 @@ returns-3 c =
 
 pub plan-back-spec : {M : Type 1} → statement M
 plan-back-spec =
-    tie.close
-    (tie.spec
-    valid-shown-requires
-    returns
-    shared-slice-read-count
-    count-requires
-    refused-requires
-    returns-2
-    sub-replayed
-    replayed-requires
-    returns-3)
+    tie.close (
+    tie.spec (λ c κs. search needs) returns (λ c. search needs) (λ c κs. search needs) (λ c κs. search needs) returns-2 (λ c. search needs)
+    replayed-requires returns-3)

@@ -14,15 +14,6 @@ returns c =
     let T = roomOfTables (A .objects .now) (A .verdicts .now) (A .size) in
     (plan-wrong T (A .session .now) (A .s) (start .pre .1 .plan) (Make (A .step)) (c .if1 .taken), start .pre .1 .few)
 
-shared-slice-read-count : tie.Need-shared-slice-read-count
-shared-slice-read-count c = search needs
-
-count-requires : tie.Need-count-requires
-count-requires c κs = search needs
-
-refused-requires : tie.Need-refused-requires
-refused-requires c κs = search needs
-
 returns-2 : tie.Need-returns-2
 returns-2 c =
     let counted = c .before .before in
@@ -58,12 +49,5 @@ returns-3 c =
 
 pub plan-on-spec : {M : Type 1} → statement M
 plan-on-spec =
-    tie.close
-    (tie.spec
-    returns
-    shared-slice-read-count
-    count-requires
-    refused-requires
-    returns-2
-    step-on-requires
-    returns-3)
+    tie.close (
+    tie.spec returns (λ c. search needs) (λ c κs. search needs) (λ c κs. search needs) returns-2 step-on-requires returns-3)

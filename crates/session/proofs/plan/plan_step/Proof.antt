@@ -12,31 +12,20 @@ use borrow.Author.Needs.{needs}
 use Rattle.session.proofs.plan.plan_step.Statement.{statement}
 use Rattle.session.proofs.plan.plan_step.Tie as tie
 
-valid-shown-requires : tie.Need-valid-shown-requires
-valid-shown-requires c κs = search needs
-
-plan-on-requires : tie.Need-plan-on-requires
-plan-on-requires c κs = search needs
-
-shared-slice-read-count : tie.Need-shared-slice-read-count
-shared-slice-read-count c = search needs
-
-count-requires : tie.Need-count-requires
-count-requires c κs = search needs
-
 touched-requires : tie.Need-touched-requires
 touched-requires c κs =
+    let if1 = c .before .before .before .if1 in let at-plan-on = c .before .before .before .before .before in
+    let after = at-plan-on .plan-on in let before = at-plan-on .before .valid-shown in
     let n = c .before .count in
-    let accepted = c .before .before .before .if1 .taken in
-    let after = c .before .before .before .before .before .plan-on in
-    let before = c .before .before .before .before .before .before .valid-shown in
+    let accepted = if1 .taken in
     let start = c .before .before .before .before .before .before .before .before .before .before .before in
     let A = start .args in
     let T = roomOfTables (A .objects .now) (A .verdicts .now) (A .size) in
     let l = A .session .now in
     let z = before-zero T l (A .step) (before .result) (after .result) (before .ensures .plan) (after .ensures .0) accepted in
     let counted = before .ensures .counted z in
-    let fits = planned-small (A .objects .now) (A .verdicts .now) (A .size) (start .pre .0 .3) l (Make (A .step)) (after .result) (after .ensures .0) accepted in
+    let fits = planned-small (A .objects .now) (A .verdicts .now) (A .size) (start .pre .0 .3) l (Make (A .step)) (after .result) (after .ensures .0)
+    accepted in
     let ready = step-ready T l (A .step) (before .result) (after .result) (before .ensures .plan) (after .ensures .0) accepted in (
       start .pre .1,
       omega (arith, n .ensures .0),
@@ -46,9 +35,6 @@ touched-requires c κs =
       omega arith,
       (A .verdicts .now, rw (n .ensures .0) ready),
     )
-
-same-length : tie.Need-same-length
-same-length c = search needs
 
 returns : tie.Need-returns
 returns c =
@@ -83,13 +69,6 @@ returns-2 c =
 
 pub plan-step-spec : {M : Type 1} → statement M
 plan-step-spec =
-    tie.close
-    (tie.spec
-    valid-shown-requires
-    plan-on-requires
-    shared-slice-read-count
-    count-requires
-    touched-requires
-    same-length
-    returns
-    returns-2)
+    tie.close (
+    tie.spec (λ c κs. search needs) (λ c κs. search needs) (λ c. search needs) (λ c κs. search needs) touched-requires (λ c. search needs)
+    returns returns-2)

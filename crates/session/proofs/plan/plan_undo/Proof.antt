@@ -12,15 +12,6 @@ use borrow.Author.Needs.{needs}
 use Rattle.session.proofs.plan.plan_undo.Statement.{statement}
 use Rattle.session.proofs.plan.plan_undo.Tie as tie
 
-plan-back-requires : tie.Need-plan-back-requires
-plan-back-requires c κs = search needs
-
-shared-slice-read-count : tie.Need-shared-slice-read-count
-shared-slice-read-count c = search needs
-
-count-requires : tie.Need-count-requires
-count-requires c κs = search needs
-
 sub-n : tie.Need-sub-n
 sub-n c =
     let some = c .before .before .before .before .plan-back .ensures .1 .1 (c .before .before .if1 .taken) in
@@ -50,9 +41,6 @@ touched-requires c κs =
       omega arith,
       (A .verdicts .now, rw (c .before .step-at .ensures, n .ensures .0) ready),
     )
-
-same-length : tie.Need-same-length
-same-length c = search needs
 
 returns : tie.Need-returns
 returns c =
@@ -84,14 +72,6 @@ returns-2 c =
 
 pub plan-undo-spec : {M : Type 1} → statement M
 plan-undo-spec =
-    tie.close
-    (tie.spec
-    plan-back-requires
-    shared-slice-read-count
-    count-requires
-    sub-n
-    step-at-requires
-    touched-requires
-    same-length
-    returns
-    returns-2)
+    tie.close (
+    tie.spec (λ c κs. search needs) (λ c. search needs) (λ c κs. search needs) sub-n step-at-requires touched-requires (λ c. search needs)
+    returns returns-2)

@@ -9,18 +9,6 @@ use borrow.Author.Needs.{needs}
 use Rattle.session.proofs.plan.valid_shown.Statement.{statement}
 use Rattle.session.proofs.plan.valid_shown.Tie as tie
 
-shared-slice-read-count : tie.Need-shared-slice-read-count
-shared-slice-read-count c = search needs
-
-count-requires : tie.Need-count-requires
-count-requires c κs = search needs
-
-replayed-requires : tie.Need-replayed-requires
-replayed-requires c κs = search needs
-
-refused-requires : tie.Need-refused-requires
-refused-requires c κs = search needs
-
 returns : tie.Need-returns
 returns c =
     let s = c .before .before .before .replayed in
@@ -63,9 +51,6 @@ returns-2 c =
       counted = λ q. omega (arith, few .taken, n .ensures .0);
     }
 
-refused-requires-2 : tie.Need-refused-requires-2
-refused-requires-2 c κs = search needs
-
 returns-3 : tie.Need-returns-3
 returns-3 c =
     let s = c .before .before .before .before .before .replayed in
@@ -83,12 +68,6 @@ returns-3 c =
       counted = λ q. omega (arith, c .refused2 .ensures .0);
     }
 
-empty-requires : tie.Need-empty-requires
-empty-requires c κs = search needs
-
-refused-requires-3 : tie.Need-refused-requires-3
-refused-requires-3 c κs = search needs
-
 returns-4 : tie.Need-returns-4
 returns-4 c =
     let n = c .before .before .before .count in
@@ -104,17 +83,6 @@ returns-4 c =
 
 pub valid-shown-spec : {M : Type 1} → statement M
 valid-shown-spec =
-    tie.close
-    (tie.spec
-    shared-slice-read-count
-    count-requires
-    replayed-requires
-    refused-requires
-    returns
-    agrees-requires
-    returns-2
-    refused-requires-2
-    returns-3
-    empty-requires
-    refused-requires-3
-    returns-4)
+    tie.close (
+    tie.spec (λ c. search needs) (λ c κs. search needs) (λ c κs. search needs) (λ c κs. search needs) returns agrees-requires returns-2
+    (λ c κs. search needs) returns-3 (λ c κs. search needs) (λ c κs. search needs) returns-4)

@@ -11,21 +11,6 @@ use borrow.Author.Needs.{needs}
 use Rattle.session.proofs.touch.changed.Statement.{statement}
 use Rattle.session.proofs.touch.changed.Tie as tie
 
-enum-known-step : tie.Need-enum-known-step
-enum-known-step c = search needs
-
-removed-requires : tie.Need-removed-requires
-removed-requires c κs = search needs
-
-enum-known-step-2 : tie.Need-enum-known-step-2
-enum-known-step-2 c = search needs
-
-last-place-requires : tie.Need-last-place-requires
-last-place-requires c κs = search needs
-
-placed-requires : tie.Need-placed-requires
-placed-requires c κs = search needs
-
 cast-t17 : tie.Need-cast-t17
 cast-t17 c =
     let at = c .before in
@@ -57,12 +42,6 @@ cast-t18 c =
     let near =
     draw-near (A .objects .now) v (A .size) (start .pre .3) (A .upto) sc (step .0 .0) (step .0 .1 .0) (step .0 .1 .1 .0) (at .placed .result) fits place in
     omega arith
-
-removed-requires-2 : tie.Need-removed-requires-2
-removed-requires-2 c κs = search needs
-
-push-if-requires : tie.Need-push-if-requires
-push-if-requires c κs = search needs
 
 returns : tie.Need-returns
 returns c =
@@ -96,16 +75,6 @@ returns-2 c =
 
 pub changed-spec : {M : Type 1} → statement M
 changed-spec =
-    tie.close
-    (tie.spec
-    enum-known-step
-    removed-requires
-    enum-known-step-2
-    last-place-requires
-    placed-requires
-    cast-t17
-    cast-t18
-    removed-requires-2
-    push-if-requires
-    returns
-    returns-2)
+    tie.close (
+    tie.spec (λ c. search needs) (λ c κs. search needs) (λ c. search needs) (λ c κs. search needs) (λ c κs. search needs) cast-t17 cast-t18
+    (λ c κs. search needs) (λ c κs. search needs) returns returns-2)

@@ -16,7 +16,8 @@ use Rattle.session.proofs.touch.some_covers.Statement.{statement}
 use Rattle.session.proofs.touch.some_covers.Tie as tie
 
 abbrev Inv-loop : tie.InvT-loop
-Inv-loop objects size strip s n found₀ i₀ found i = (i ≤ n) × (n ≤ 64) × (n ≡ s .n) × (length (s .list) ≡ 64) × ((v : List ℕ) → found ≡ some (λ (e : Entry). covers (roomOfTables objects v size) e strip) (take i (s .list)))
+Inv-loop objects size strip s n found₀ i₀ found i = (i ≤ n) × (n ≤ 64) × (n ≡ s .n) × (length (s .list) ≡ 64) ×
+    ((v : List ℕ) → found ≡ some (λ (e : Entry). covers (roomOfTables objects v size) e strip) (take i (s .list)))
 
 abbrev μ-loop : tie.MeasureT-loop
 μ-loop objects size strip s n found₀ i₀ found i = n - i
@@ -25,26 +26,17 @@ loop-holds : tie.Need-loop-holds Inv-loop μ-loop
 unfolding some
 loop-holds c = (omega arith, c .before .pre .2, refl, search (needs, length-of-map), λ v. refl)
 
-mul-e : tie.Need-mul-e Inv-loop μ-loop
-mul-e c = omega arith
-
-element-copy-out-e : tie.Need-element-copy-out-e Inv-loop μ-loop
-element-copy-out-e c = omega arith
-
-is-covered-requires : tie.Need-is-covered-requires Inv-loop μ-loop
-is-covered-requires c κs = omega arith
-
-add-i : tie.Need-add-i Inv-loop μ-loop
-add-i c = omega arith
-
-loop-less : tie.Need-loop-less Inv-loop μ-loop
-loop-less c = omega arith
-
 loop-again : tie.Need-loop-again Inv-loop μ-loop
 loop-again c =
-    let v = c .before .before .before .loop .inv in
-    let A = c .before .before .before .before .before .args in
-    (omega arith, v .1, v .2, v .3, λ w. ap (λ (b : Bool). c .before .before .before .loop .found || b) (c .is-covered .ensures w) ∙ some-more (λ (e : Entry). covers (roomOfTables (A .objects .now) w (A .size)) e (A .strip)) (A .t3 .list) (c .before .before .before .loop .i) _ (c .before .before .before .loop .found) (omega arith) (v .4 w))
+    let loop = c .before .before .before .loop in let A = c .before .before .before .before .before .args in
+    let v = loop .inv in (
+      omega arith,
+      v .1,
+      v .2,
+      v .3,
+      λ w. ap (λ (b : Bool). loop .found || b) (c .is-covered .ensures w) ∙ some-more
+          (λ (e : Entry). covers (roomOfTables (A .objects .now) w (A .size)) e (A .strip)) (A .t3 .list) (loop .i) _ (loop .found) (omega arith) (v .4 w),
+    )
 
 returns : tie.Need-returns Inv-loop μ-loop
 returns c =
@@ -53,15 +45,6 @@ returns c =
 
 pub some-covers-spec : {M : Type 1} → statement M
 some-covers-spec =
-    tie.close
-    (tie.spec
-    Inv-loop
-    μ-loop
-    loop-holds
-    mul-e
-    element-copy-out-e
-    is-covered-requires
-    add-i
-    loop-less
-    loop-again
-    returns)
+    tie.close (
+    tie.spec Inv-loop μ-loop loop-holds (λ c. omega arith) (λ c. omega arith) (λ c κs. omega arith) (λ c. omega arith) (λ c. omega arith)
+    loop-again returns)

@@ -7,19 +7,13 @@ use borrow.Author.Needs.{needs}
 use Rattle.session.proofs.touch.touched.Statement.{statement}
 use Rattle.session.proofs.touch.touched.Tie as tie
 
-changed-requires : tie.Need-changed-requires
-changed-requires c κs = search needs
-
-mark-strips-requires : tie.Need-mark-strips-requires
-mark-strips-requires c κs = search needs
-
-same-length : tie.Need-same-length
-same-length c = search needs
-
 returns : tie.Need-returns
 returns c =
-    let A = c .before .before .before .before .before .before .before .before .args in
-    λ v. touched-is (roomOfTables (A .objects .now) v (A .size)) (sceneAfter (roomOfTables (A .objects .now) v (A .size)) (down (stepAt (A .session .now)) (A .upto)) (entries (A .s))) (A .step) 128 (A .strips .now) _ (entries (c .before .before .before .before .changed .result)) (c .before .before .mark-strips .ensures v) (c .before .before .before .before .changed .ensures .0 v)
+    let mark-strips = c .before .before .mark-strips in let at-changed = c .before .before .before .before in
+    let changed = at-changed .changed in let A = at-changed .before .before .before .before .args in
+    λ v. touched-is (roomOfTables (A .objects .now) v (A .size)) (sceneAfter (roomOfTables (A .objects .now) v (A .size))
+    (down (stepAt (A .session .now)) (A .upto)) (entries (A .s))) (A .step) 128 (A .strips .now) _ (entries (changed .result)) (mark-strips .ensures v)
+    (changed .ensures .0 v)
 
 pub touched-spec : {M : Type 1} → statement M
-touched-spec = tie.close (tie.spec changed-requires mark-strips-requires same-length returns)
+touched-spec = tie.close (tie.spec (λ c κs. search needs) (λ c κs. search needs) (λ c. search needs) returns)

@@ -8,24 +8,12 @@ use borrow.Author.Needs.{needs}
 use Rattle.stored.proofs.bytes.store_history.Statement.{statement}
 use Rattle.stored.proofs.bytes.store_history.Tie as tie
 
-slice-read-count : tie.Need-slice-read-count
-slice-read-count c = search needs
-
-count-requires : tie.Need-count-requires
-count-requires c κs = search needs
-
-enum-known-call : tie.Need-enum-known-call
-enum-known-call c = search needs
-
 put-step-requires : tie.Need-put-step-requires
 put-step-requires c κs =
     let made = c .before .before in
     let start = made .before .before .before .before .before in
     let fits = subst (Storable (start .args .session .now)) (made .call .given .1) (start .pre .1) in
     (omega (arith, made .before .before .count .ensures .0), start .pre .0, fits .1)
-
-add-session : tie.Need-add-session
-add-session c = search needs
 
 cast-session : tie.Need-cast-session
 cast-session c =
@@ -34,54 +22,23 @@ cast-session c =
     let fits = subst (Storable (start .args .session .now)) (made .call .given .1) (start .pre .1) in
     omega (arith, made .before .before .count .ensures .0)
 
-slice-write-session : tie.Need-slice-write-session
-slice-write-session c = search needs
-
-enum-told : tie.Need-enum-told
-enum-told c = search needs
-
 sub-session : tie.Need-sub-session
 sub-session c =
     let start = c .before .before .before .before .before in
     let some : 0 < getD (start .args .session .now) 0 0 = subst (Storable (start .args .session .now)) (c .enum-told .given .1) (start .pre .1) in
     omega (arith, c .before .before .count .ensures .0)
 
-cast-session-2 : tie.Need-cast-session-2
-cast-session-2 c = search needs
-
-slice-write-session-2 : tie.Need-slice-write-session-2
-slice-write-session-2 c = search needs
-
-same-length : tie.Need-same-length
-same-length c = search needs
-
 returns : tie.Need-returns
 returns c =
     let made = c .before .before .before .before .before in
     rw (made .call .given .1, c .before .before .put-step .ensures, made .before .before .count .ensures .0)
-
-same-length-2 : tie.Need-same-length-2
-same-length-2 c = search needs
 
 returns-2 : tie.Need-returns-2
 returns-2 c = rw (c .enum-told .given .1, c .before .before .count .ensures .0)
 
 pub store-history-spec : {M : Type 1} → statement M
 store-history-spec =
-    tie.close
-    (tie.spec
-    slice-read-count
-    count-requires
-    enum-known-call
-    put-step-requires
-    add-session
-    cast-session
-    slice-write-session
-    enum-told
-    sub-session
-    cast-session-2
-    slice-write-session-2
-    same-length
-    returns
-    same-length-2
-    returns-2)
+    tie.close (
+    tie.spec (λ c. search needs) (λ c κs. search needs) (λ c. search needs) put-step-requires (λ c. search needs) cast-session
+    (λ c. search needs) (λ c. search needs) sub-session (λ c. search needs) (λ c. search needs) (λ c. search needs) returns
+    (λ c. search needs) returns-2)

@@ -11,7 +11,8 @@ use Rattle.stored.proofs.bytes.store_shown.Statement.{statement}
 use Rattle.stored.proofs.bytes.store_shown.Tie as tie
 
 abbrev Inv-loop : tie.InvT-loop
-Inv-loop session₀ s n i₀ session i = (i ≤ n) × (n ≤ 64) × (n ≡ s .n) × (length (s .list) ≡ 64) × (450 ≤ length session₀) × (length session ≡ length session₀) × All SmallEntry (take n (s .list)) × (putMarks session₀ 0 (take n (s .list)) ≡ putMarks session i (drop i (take n (s .list))))
+Inv-loop session₀ s n i₀ session i = (i ≤ n) × (n ≤ 64) × (n ≡ s .n) × (length (s .list) ≡ 64) × (450 ≤ length session₀) × (length session ≡ length session₀) ×
+    All SmallEntry (take n (s .list)) × (putMarks session₀ 0 (take n (s .list)) ≡ putMarks session i (drop i (take n (s .list))))
 
 abbrev μ-loop : tie.MeasureT-loop
 μ-loop session₀ s n i₀ session i = n - i
@@ -19,58 +20,40 @@ abbrev μ-loop : tie.MeasureT-loop
 loop-holds : tie.Need-loop-holds Inv-loop μ-loop
 loop-holds c = (omega arith, c .pre .1, refl, search (needs, length-of-map), c .pre .0, refl, c .pre .2, refl)
 
-mul-e : tie.Need-mul-e Inv-loop μ-loop
-mul-e c = omega arith
-
-element-copy-out-e : tie.Need-element-copy-out-e Inv-loop μ-loop
-element-copy-out-e c = omega arith
-
-mul-at : tie.Need-mul-at Inv-loop μ-loop
-mul-at c = omega arith
-
-add-at : tie.Need-add-at Inv-loop μ-loop
-add-at c = omega arith
-
 cast-session : tie.Need-cast-session Inv-loop μ-loop
 cast-session c =
-    let v = c .before .before .before .loop .inv in
-    let S = c .before .before .before .before .args .t2 in
-    let b = small-at (S .list) (S .n) (omega arith) (c .before .before .before .loop .i) (record { object = 0; state = 0; x = 0; y = 0 }) (omega arith) (v .6) in
+    let loop = c .before .before .before .loop in let args = c .before .before .before .before .args in
+    let v = loop .inv in
+    let S = args .t2 in
+    let b = small-at (S .list) (S .n) (omega arith) (loop .i) (record { object = 0; state = 0; x = 0; y = 0 }) (omega arith) (v .6) in
     omega arith
-
-slice-write-session : tie.Need-slice-write-session Inv-loop μ-loop
-slice-write-session c = omega arith
 
 cast-session-2 : tie.Need-cast-session-2 Inv-loop μ-loop
 cast-session-2 c =
-    let v = c .before .before .before .before .loop .inv in
-    let S = c .before .before .before .before .before .args .t2 in
-    let b = small-at (S .list) (S .n) (omega arith) (c .before .before .before .before .loop .i) (record { object = 0; state = 0; x = 0; y = 0 }) (omega arith) (v .6) in
+    let at-loop = c .before .before .before .before in let loop = at-loop .loop in let args = at-loop .before .args in
+    let v = loop .inv in
+    let S = args .t2 in
+    let b = small-at (S .list) (S .n) (omega arith) (loop .i) (record { object = 0; state = 0; x = 0; y = 0 }) (omega arith) (v .6) in
     omega arith
-
-add-session : tie.Need-add-session Inv-loop μ-loop
-add-session c = omega arith
 
 slice-write-session-2 : tie.Need-slice-write-session-2 Inv-loop μ-loop
 slice-write-session-2 c = simp length-set (omega arith)
 
-add-i : tie.Need-add-i Inv-loop μ-loop
-add-i c = omega arith
-
-loop-less : tie.Need-loop-less Inv-loop μ-loop
-loop-less c = omega arith
-
 loop-again : tie.Need-loop-again Inv-loop μ-loop
 loop-again c =
-    let v = c .before .before .before .before .loop .inv in
-    let S = c .before .before .before .before .before .args .t2 in
-    (omega arith, v .1, v .2, v .3, v .4, simp length-set (v .5), v .6, v .7 ∙ put-more (S .list) (S .n) (omega arith) (c .before .before .before .before .loop .session) (c .before .before .before .before .loop .i) (record { object = 0; state = 0; x = 0; y = 0 }) (omega arith))
-
-cast-session-3 : tie.Need-cast-session-3 Inv-loop μ-loop
-cast-session-3 c = omega arith
-
-slice-write-session-3 : tie.Need-slice-write-session-3 Inv-loop μ-loop
-slice-write-session-3 c = omega arith
+    let at-loop = c .before .before .before .before in let loop = at-loop .loop in let args = at-loop .before .args in
+    let v = loop .inv in
+    let S = args .t2 in (
+      omega arith,
+      v .1,
+      v .2,
+      v .3,
+      v .4,
+      simp length-set (v .5),
+      v .6,
+      v .7 ∙ put-more (S .list) (S .n) (omega arith) (loop .session) (loop .i)
+          (record { object = 0; state = 0; x = 0; y = 0 }) (omega arith),
+    )
 
 same-length : tie.Need-same-length Inv-loop μ-loop
 same-length c = simp length-set (c .before .loop .inv .5)
@@ -83,24 +66,7 @@ returns c =
 
 pub store-shown-spec : {M : Type 1} → statement M
 store-shown-spec =
-    tie.close
-    (tie.spec
-    Inv-loop
-    μ-loop
-    loop-holds
-    mul-e
-    element-copy-out-e
-    mul-at
-    add-at
-    cast-session
-    slice-write-session
-    cast-session-2
-    add-session
-    slice-write-session-2
-    add-i
-    loop-less
-    loop-again
-    cast-session-3
-    slice-write-session-3
-    same-length
-    returns)
+    tie.close (
+    tie.spec Inv-loop μ-loop loop-holds (λ c. omega arith) (λ c. omega arith) (λ c. omega arith) (λ c. omega arith) cast-session
+    (λ c. omega arith) cast-session-2 (λ c. omega arith) slice-write-session-2 (λ c. omega arith) (λ c. omega arith) loop-again
+    (λ c. omega arith) (λ c. omega arith) same-length returns)

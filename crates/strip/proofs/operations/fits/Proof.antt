@@ -5,25 +5,17 @@ use borrow.Author.Tests.{not-false, leb-true}
 use borrow.Author.Needs.{needs}
 use Rattle.strip.proofs.operations.fits.Statement.{statement}
 use Rattle.strip.proofs.operations.fits.Tie as tie
-use Rattle.strip.proofs.operations.fits.Reads as reads
-use Rattle.strip.proofs.operations.fits.Lts as lts
-use Rattle.bits.proofs.Cursor.holds.Reads as holds-reads
-use Rattle.strip.proofs.operations.run_at.Reads as run-at-reads
-
-holds-requires : tie.Need-holds-requires
-holds-requires c κs = search needs
 
 returns : tie.Need-returns
 returns c = λ e. absurd (true≢false (sym e))
 
 run-at-requires : tie.Need-run-at-requires
-run-at-requires c κs = (omega (arith, c .before .holds .ensures .0 (not-false _ (c .if1 .left)), c .before .before .before .pre .0), c .before .before .before .pre .1)
+run-at-requires c κs =
+    let pre = c .before .before .before .pre in
+    (omega (arith, c .before .holds .ensures .0 (not-false _ (c .if1 .left)), pre .0), pre .1)
 
 returns-2 : tie.Need-returns-2
 returns-2 c = λ e. absurd (true≢false (sym e))
-
-add-result : tie.Need-add-result
-add-result c = search needs
 
 returns-3 : tie.Need-returns-3
 returns-3 c = λ e. record {
@@ -34,4 +26,5 @@ returns-3 c = λ e. record {
 
 pub fits-spec : {M : Type 1} → statement M
 fits-spec =
-    tie.close (tie.spec holds-requires returns run-at-requires returns-2 add-result returns-3)
+    tie.close (
+    tie.spec (λ c κs. search needs) returns run-at-requires returns-2 (λ c. search needs) returns-3)

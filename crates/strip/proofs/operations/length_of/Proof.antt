@@ -4,11 +4,6 @@ use borrow.Author.Tests.{not-true, not-false}
 use borrow.Author.Needs.{needs}
 use Rattle.strip.proofs.operations.length_of.Statement.{statement}
 use Rattle.strip.proofs.operations.length_of.Tie as tie
-use Rattle.strip.proofs.operations.length_of.Reads as reads
-use Rattle.strip.proofs.operations.length_of.Lts as lts
-
-add-result : tie.Need-add-result
-add-result c = search needs
 
 returns : tie.Need-returns
 returns c = rw (not-true (c .before .args .more) (c .if1 .taken)) (refl, omega (arith, c .before .pre))
@@ -20,4 +15,4 @@ returns-3 : tie.Need-returns-3
 returns-3 c = rw (not-false (c .before .before .args .more) (c .before .if1 .left), c .if2 .left) (refl, omega arith)
 
 pub length-of-spec : {M : Type 1} → statement M
-length-of-spec = tie.close (tie.spec add-result returns returns-2 returns-3)
+length-of-spec = tie.close (tie.spec (λ c. search needs) returns returns-2 returns-3)

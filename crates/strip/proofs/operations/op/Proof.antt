@@ -1,9 +1,5 @@
 use Rattle.strip.proofs.operations.op.Statement.{statement}
 use Rattle.strip.proofs.operations.op.Tie as tie
-use Rattle.strip.proofs.operations.op.Reads as reads
-use Rattle.strip.proofs.operations.op.Lts as lts
-use Rattle.strip.proofs.operations.first_op.Reads as first-op-reads
-use Rattle.strip.proofs.operations.second_op.Reads as second-op-reads
 
 second-op-requires : tie.Need-second-op-requires
 second-op-requires c κs = rw (c .if1 .taken) at (c .before .pre)

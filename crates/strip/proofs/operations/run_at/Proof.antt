@@ -4,15 +4,9 @@ use Rattle.strip.specs.Place.{isRun}
 use borrow.Author.Needs.{needs}
 use Rattle.strip.proofs.operations.run_at.Statement.{statement}
 use Rattle.strip.proofs.operations.run_at.Tie as tie
-use Rattle.strip.proofs.operations.run_at.Reads as reads
-use Rattle.strip.proofs.operations.run_at.Lts as lts
-use Rattle.bits.proofs.Cursor.take.Reads as take-reads
-
-take-requires : tie.Need-take-requires
-take-requires c κs = search needs
 
 returns : tie.Need-returns
 returns c = λ s. ap (λ p. c .before .before .args .second && isRun p) (sym (c .before .take .ensures .front s))
 
 pub run-at-spec : {M : Type 1} → statement M
-run-at-spec = tie.close (tie.spec take-requires returns)
+run-at-spec = tie.close (tie.spec (λ c κs. search needs) returns)

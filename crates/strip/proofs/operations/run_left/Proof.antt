@@ -7,13 +7,6 @@ use borrow.Author.Tests.{not-true, not-false}
 use borrow.Author.Needs.{needs}
 use Rattle.strip.proofs.operations.run_left.Statement.{statement}
 use Rattle.strip.proofs.operations.run_left.Tie as tie
-use Rattle.strip.proofs.operations.run_left.Reads as reads
-use Rattle.strip.proofs.operations.run_left.Lts as lts
-use Rattle.bits.proofs.Cursor.holds.Reads as holds-reads
-use Rattle.strip.proofs.operations.run_at.Reads as run-at-reads
-
-holds-requires : tie.Need-holds-requires
-holds-requires c κs = search needs
 
 returns : tie.Need-returns
 returns c = λ s full.
@@ -28,4 +21,4 @@ returns-2 : tie.Need-returns-2
 returns-2 c = λ s full. c .run-at .ensures s
 
 pub run-left-spec : {M : Type 1} → statement M
-run-left-spec = tie.close (tie.spec holds-requires returns run-at-requires returns-2)
+run-left-spec = tie.close (tie.spec (λ c κs. search needs) returns run-at-requires returns-2)

@@ -1,12 +1,9 @@
 use mathlib.Core.Path.{_≡_, refl}
 use Prim.Native.Nat.{ℕ, zero, suc}
 use native.Mathlib.Omega.{arith}
-use borrow.Author.Needs.{needs}
 use Rattle.strip.specs.Strip.{runPixels}
 use Rattle.strip.proofs.operations.run_pixels.Statement.{statement}
 use Rattle.strip.proofs.operations.run_pixels.Tie as tie
-use Rattle.strip.proofs.operations.run_pixels.Reads as reads
-use Rattle.strip.proofs.operations.run_pixels.Lts as lts
 
 pixels-none : (n : ℕ) → n ≡ 0 → 256 ≡ runPixels n
 pixels-none zero none = refl

@@ -6,17 +6,6 @@ use mathlib.Core.Bool.{Bool}
 use borrow.Author.Needs.{needs}
 use Rattle.strip.proofs.operations.step.Statement.{statement}
 use Rattle.strip.proofs.operations.step.Tie as tie
-use Rattle.strip.proofs.operations.step.Reads as reads
-use Rattle.strip.proofs.operations.step.Lts as lts
-use Rattle.strip.proofs.operations.one.Reads as one-reads
-use Rattle.strip.proofs.operations.run.Reads as run-reads
-use Rattle.strip.proofs.operations.run_left.Reads as run-left-reads
-
-run-left-requires : tie.Need-run-left-requires
-run-left-requires c κs = search needs
-
-run-requires : tie.Need-run-requires
-run-requires c κs = search needs
 
 returns : tie.Need-returns
 returns c = λ s held full.
@@ -26,11 +15,10 @@ returns c = λ s held full.
     subst (λ (q : Bool). Stepped q (a .w) (a .total) s (a .st) (c .run .result)) (sym (and-left (a .second) ahead is-run))
     (c .run .ensures (a .w) s held full (and-right (a .second) ahead is-run))
 
-one-requires : tie.Need-one-requires
-one-requires c κs = search needs
-
 returns-2 : tie.Need-returns-2
 returns-2 c = λ s held full. c .one .ensures s held full (sym (c .before .before .run-left .ensures s full) ∙ c .before .if1 .left)
 
 pub step-spec : {M : Type 1} → statement M
-step-spec = tie.close (tie.spec run-left-requires run-requires returns one-requires returns-2)
+step-spec =
+    tie.close (
+    tie.spec (λ c κs. search needs) (λ c κs. search needs) returns (λ c κs. search needs) returns-2)

@@ -12,14 +12,6 @@ use borrow.Author.Tests.{not-true, not-false}
 use borrow.Author.Needs.{needs}
 use Rattle.strip.proofs.operations.whole.Statement.{statement}
 use Rattle.strip.proofs.operations.whole.Tie as tie
-use Rattle.strip.proofs.operations.whole.Reads as reads
-use Rattle.strip.proofs.operations.whole.Lts as lts
-use Rattle.bits.proofs.Cursor.holds.Reads as holds-reads
-use Rattle.bits.proofs.Cursor.take.Reads as take-reads
-use Rattle.strip.proofs.operations.length_of.Reads as length-of-reads
-
-holds-requires : tie.Need-holds-requires
-holds-requires c κs = search needs
 
 returns : tie.Need-returns
 returns c = (
@@ -32,12 +24,6 @@ returns c = (
 
 take-requires : tie.Need-take-requires
 take-requires c κs = (c .before .holds .ensures .0 (not-false _ (c .if1 .left)), c .before .before .pre .1)
-
-length-of-requires : tie.Need-length-of-requires
-length-of-requires c κs = search needs
-
-holds-requires-2 : tie.Need-holds-requires-2
-holds-requires-2 c κs = search needs
 
 returns-2 : tie.Need-returns-2
 returns-2 c =
@@ -60,5 +46,5 @@ returns-2 c =
 
 pub whole-spec : {M : Type 1} → statement M
 whole-spec =
-    tie.close
-    (tie.spec holds-requires returns take-requires length-of-requires holds-requires-2 returns-2)
+    tie.close (
+    tie.spec (λ c κs. search needs) returns take-requires (λ c κs. search needs) (λ c κs. search needs) returns-2)

@@ -4,21 +4,6 @@ use borrow.Author.Needs.{needs}
 use Rattle.verdict.proofs.judge.judge.Statement.{statement}
 use Rattle.verdict.proofs.judge.judge.Tie as tie
 
-judge-steps-requires : tie.Need-judge-steps-requires
-judge-steps-requires c κs = search needs
-
-enum-known-call : tie.Need-enum-known-call
-enum-known-call c = search needs
-
-judge-step-requires : tie.Need-judge-step-requires
-judge-step-requires c κs = search needs
-
-enum-told : tie.Need-enum-told
-enum-told c = search needs
-
-same-length : tie.Need-same-length
-same-length c = search needs
-
 returns : tie.Need-returns
 returns c =
     let made = c .before .before .before .before .before in
@@ -26,9 +11,6 @@ returns c =
     let start = judged .before .before .before .before .before .before in
     rw (made .call .given .1)
     (judged-agree _ (start .args .r) _ (start .pre .0 .1) _ _ (start .pre .0 .0) (c .before .before .judge-step .ensures _ (judged .judge-steps .ensures)))
-
-same-length-2 : tie.Need-same-length-2
-same-length-2 c = search needs
 
 returns-2 : tie.Need-returns-2
 returns-2 c =
@@ -38,13 +20,6 @@ returns-2 c =
 
 pub judge-spec : {M : Type 1} → statement M
 judge-spec =
-    tie.close
-    (tie.spec
-    judge-steps-requires
-    enum-known-call
-    judge-step-requires
-    enum-told
-    same-length
-    returns
-    same-length-2
-    returns-2)
+    tie.close (
+    tie.spec (λ c κs. search needs) (λ c. search needs) (λ c κs. search needs) (λ c. search needs) (λ c. search needs) returns
+    (λ c. search needs) returns-2)

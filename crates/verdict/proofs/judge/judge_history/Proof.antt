@@ -4,16 +4,10 @@ use borrow.Author.Needs.{needs}
 use Rattle.verdict.proofs.judge.judge_history.Statement.{statement}
 use Rattle.verdict.proofs.judge.judge_history.Tie as tie
 
-judge-steps-requires : tie.Need-judge-steps-requires
-judge-steps-requires c κs = search needs
-
-same-length : tie.Need-same-length
-same-length c = search needs
-
 returns : tie.Need-returns
 returns c =
     let start = c .before .before .before .before .before .before .before .before in
     judged-agree _ (start .args .r) _ (start .pre .0 .1) _ _ (start .pre .0 .0) (c .before .before .judge-steps .ensures)
 
 pub judge-history-spec : {M : Type 1} → statement M
-judge-history-spec = tie.close (tie.spec judge-steps-requires same-length returns)
+judge-history-spec = tie.close (tie.spec (λ c κs. search needs) (λ c. search needs) returns)

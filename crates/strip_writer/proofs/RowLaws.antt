@@ -1,0 +1,257 @@
+-- Laws of the operations of a strip of rows, and that a strip that is written reads back.
+use mathlib.Core.Path.{_≡_, refl, sym, ap, ap₂, _∙_}
+use mathlib.Core.Bool.{Bool, true, false, _&&_, cond}
+use mathlib.Core.List.{List, [], _∷_, _++_}
+use Prim.Native.Nat.{ℕ, zero, suc, _+_, _-_, _*_, _≤_, _<_, zero-le}
+use native.Mathlib.Nat.{le-refl, suc-add, zero-add, not-suc-le-zero}
+use native.Mathlib.Numerals.{sub-one}
+use native.Mathlib.Omega.{arith}
+use borrow.Author.Tests.{eqb-true, eq-eqb, leb-true, leb-false}
+use lib.ListN.{length, length-append, length-drop, take, drop, replicate, take-append-drop}
+use lib.Seq.{length-take-le}
+use lib.Dec.{eqb, leb}
+use Rattle.strip.specs.Strip.{Strip, refused, pixels, onto, prepend}
+use Rattle.plane.specs.Mask.{literals, copies, leaves, rowsOf}
+use Rattle.plane.proofs.MaskLaws.{plan-literals, plan-copies, rows-op, rows-copies, rows-done}
+use Rattle.strip.proofs.StripLaws.{prepend-none}
+use Rattle.strip_writer.specs.Rows.{runLength, literalLength, opRows, opBytes, opsBytes, allZero, rowsBody}
+
+-- ---- counts
+
+module _ (b : ℕ) where
+  run-cases : (m x : ℕ) (t : List ℕ) (p : Bool) → eqb x b ≡ p → runLength (suc m) b (x ∷ t) ≡ cond p (suc (runLength m b t)) 0
+  unfolding runLength
+  run-cases m x t p e = ap (λ (q : Bool). cond q (suc (runLength m b t)) 0) e
+
+  pub run-le : (m : ℕ) (l : List ℕ) → (runLength m b l ≤ m) × (runLength m b l ≤ length l)
+  unfolding runLength
+  run-le zero l = (zero-le, zero-le)
+  run-le (suc m) [] = (zero-le, zero-le)
+  run-le (suc m) (x ∷ t) = go (eqb x b) (run-le m t)
+    where
+      go : (p : Bool) → (runLength m b t ≤ m) × (runLength m b t ≤ length t) → (cond p (suc (runLength m b t)) 0 ≤ suc m) ×
+          (cond p (suc (runLength m b t)) 0 ≤ suc (length t))
+      go true h = (omega arith, omega arith)
+      go false h = (zero-le, zero-le)
+
+  pub run-take : (m : ℕ) (l : List ℕ) → take (runLength m b l) l ≡ replicate (runLength m b l) b
+  unfolding runLength
+  run-take zero l = refl
+  run-take (suc m) [] = refl
+  run-take (suc m) (x ∷ t) = go (eqb x b) refl (run-take m t)
+    where
+      go : (p : Bool) → eqb x b ≡ p → take (runLength m b t) t ≡ replicate (runLength m b t) b
+          → take (cond p (suc (runLength m b t)) 0) (x ∷ t) ≡ replicate (cond p (suc (runLength m b t)) 0) b
+      go true e h = ap₂ (λ (y : ℕ) (u : List ℕ). y ∷ u) (eqb-true x b e) h
+      go false e h = refl
+
+pub run-more : (m x : ℕ) (t : List ℕ) → runLength (suc m) x (x ∷ t) ≡ suc (runLength m x t)
+run-more m x t = run-cases x m x t true (eq-eqb x x refl)
+
+pub literal-le : (m : ℕ) (l : List ℕ) → (literalLength m l ≤ m) × (literalLength m l ≤ length l)
+unfolding literalLength
+literal-le zero l = (zero-le, zero-le)
+literal-le (suc m) [] = (zero-le, zero-le)
+literal-le (suc m) (x ∷ []) = (omega arith, le-refl 1)
+literal-le (suc m) (x ∷ y ∷ t) = go (eqb x y) (literal-le m (y ∷ t))
+  where
+    go : (p : Bool) → (literalLength m (y ∷ t) ≤ m) × (literalLength m (y ∷ t) ≤ suc (length t)) → (cond p 0 (suc (literalLength m (y ∷ t))) ≤ suc m) ×
+        (cond p 0 (suc (literalLength m (y ∷ t))) ≤ suc (suc (length t)))
+    go true h = (zero-le, zero-le)
+    go false h = (omega arith, omega arith)
+
+-- where there is no pair, there is a row
+pub literal-some : (m x : ℕ) (t : List ℕ) → runLength (suc (suc m)) x (x ∷ t) < 2 → 1 ≤ literalLength (suc (suc m)) (x ∷ t)
+unfolding literalLength
+literal-some m x [] h = le-refl 1
+literal-some m x (y ∷ t) h = go (eqb x y) refl
+  where
+    go : (p : Bool) → eqb x y ≡ p → 1 ≤ cond p 0 (suc (literalLength (suc m) (y ∷ t)))
+    go true e = absurd (omega (arith, run-more (suc m) x (y ∷ t), run-cases x m y t true (eq-eqb y x (sym (eqb-true x y e)))))
+    go false e = omega arith
+
+pub op-rows-cases : (x : ℕ) (t : List ℕ) (p : Bool) → leb 2 (runLength 127 x (x ∷ t)) ≡ p → opRows x t ≡ cond p (runLength 127 x (x ∷ t))
+    (literalLength 127 (x ∷ t))
+unfolding opRows
+op-rows-cases x t p e = ap (λ (q : Bool). cond q (runLength 127 x (x ∷ t)) (literalLength 127 (x ∷ t))) e
+
+pub op-bytes-cases : (x : ℕ) (t : List ℕ) (p : Bool) → leb 2 (runLength 127 x (x ∷ t)) ≡ p
+    → opBytes x t ≡ cond p ((0x80 + runLength 127 x (x ∷ t)) ∷ x ∷ []) (literalLength 127 (x ∷ t) ∷ take (literalLength 127 (x ∷ t)) (x ∷ t))
+unfolding opBytes
+op-bytes-cases x t p e = ap (λ (q : Bool). cond q ((0x80 + runLength 127 x (x ∷ t)) ∷ x ∷ [])
+    (literalLength 127 (x ∷ t) ∷ take (literalLength 127 (x ∷ t)) (x ∷ t))) e
+
+pub record RowsBrought (x : ℕ) (t : List ℕ) : Type 0 where
+  pub some : 1 ≤ opRows x t
+  pub most : opRows x t ≤ 127
+  pub inside : opRows x t ≤ suc (length t)
+
+pub rows-brought : (x : ℕ) (t : List ℕ) → RowsBrought x t
+rows-brought x t = go (leb 2 (runLength 127 x (x ∷ t))) refl
+  where
+    go : (p : Bool) → leb 2 (runLength 127 x (x ∷ t)) ≡ p → RowsBrought x t
+    go true e =
+        let r = op-rows-cases x t true e in
+        let h = leb-true 2 (runLength 127 x (x ∷ t)) e in
+        let k = run-le x 127 (x ∷ t) in
+        record { some = omega arith; most = omega arith; inside = omega arith }
+    go false e =
+        let r = op-rows-cases x t false e in
+        let h = literal-some 125 x t (leb-false 2 (runLength 127 x (x ∷ t)) e) in
+        let k = literal-le 127 (x ∷ t) in
+        record { some = omega arith; most = omega arith; inside = omega arith }
+
+-- ---- the operations, one by one
+
+pub row-ops-drop : (k : ℕ) (l : List ℕ) → opsBytes k l ≡ opsBytes 0 (drop k l)
+unfolding opsBytes
+row-ops-drop zero l = refl
+row-ops-drop (suc k) [] = refl
+row-ops-drop (suc k) (x ∷ t) = row-ops-drop k t
+
+drop-pred : (r x : ℕ) (t : List ℕ) → 1 ≤ r → drop (r - 1) t ≡ drop r (x ∷ t)
+drop-pred zero x t h = absurd (not-suc-le-zero h)
+drop-pred (suc r) x t h = rw sub-one
+
+pub row-ops-step : (x : ℕ) (t : List ℕ) → opsBytes 0 (x ∷ t) ≡ opBytes x t ++ opsBytes 0 (drop (opRows x t) (x ∷ t))
+unfolding opsBytes
+row-ops-step x t =
+    ap (λ (u : List ℕ). opBytes x t ++ u) (row-ops-drop (opRows x t - 1) t ∙ ap (opsBytes 0) (drop-pred (opRows x t) x t (rows-brought x t .some)))
+
+-- ---- what is written is read back
+
+onto-prepend : (x : ℕ) (xs : List ℕ) (s : Strip) → onto x (prepend xs s) ≡ prepend (x ∷ xs) s
+onto-prepend x xs (refused n) = refl
+onto-prepend x xs (pixels ys) = refl
+
+lits-back : (xs u : List ℕ) (k : ℕ) → rowsOf (xs ++ u) (length xs + k) (literals (length xs)) ≡ prepend xs (rowsOf u k (literals 0))
+unfolding rowsOf
+lits-back [] u k = prepend-none _ ∙ ap (λ (n : ℕ). prepend [] (rowsOf u n (literals 0))) (zero-add k)
+lits-back (x ∷ xs) u k =
+    ap (λ (n : ℕ). rowsOf (x ∷ (xs ++ u)) n (literals (suc (length xs)))) (suc-add (length xs) k)
+    ∙ ap (onto x) (lits-back xs u k)
+    ∙ onto-prepend x xs (rowsOf u k (literals 0))
+
+module _ (x : ℕ) (t u : List ℕ) where
+  run-back : (r : ℕ) → 2 ≤ r → r ≤ 127 → r ≤ suc (length t) → take r (x ∷ t) ≡ replicate r x
+      → rowsOf ((0x80 + r) ∷ x ∷ u) (suc (length t)) (literals 0) ≡ prepend (take r (x ∷ t)) (rowsOf u (suc (length t) - r) (literals 0))
+  run-back r two most inside same =
+      let back : (0x80 + r) - 0x80 ≡ r = omega arith in
+      rows-op ((0x80 + r) ∷ x ∷ u) (x ∷ u) (0x80 + r) refl (suc (length t)) 0 (copies r) (omega arith) zero-le
+      (plan-copies (suc (length t)) (0x80 + r) (omega arith) (omega arith) ∙ ap (λ (n : ℕ). leaves (copies n)) back)
+      ∙ rows-copies (x ∷ u) u x refl (suc (length t)) r (omega arith)
+      ∙ ap (λ (q : List ℕ). prepend q (rowsOf u (suc (length t) - r) (literals 0))) (sym same)
+
+  literal-back : (r : ℕ) → 1 ≤ r → r ≤ 127 → r ≤ suc (length t)
+      → rowsOf (r ∷ (take r (x ∷ t) ++ u)) (suc (length t)) (literals 0) ≡ prepend (take r (x ∷ t)) (rowsOf u (suc (length t) - r) (literals 0))
+  literal-back r one most inside =
+      let len : length (take r (x ∷ t)) ≡ r = length-take-le r (x ∷ t) inside in
+      let all : suc (length t) ≡ length (take r (x ∷ t)) + (suc (length t) - r) = omega arith in
+      rows-op (r ∷ (take r (x ∷ t) ++ u)) (take r (x ∷ t) ++ u) r refl (suc (length t)) 0 (literals r) (omega arith) zero-le
+      (plan-literals (suc (length t)) r (omega arith) inside)
+      ∙ ap₂ (λ (n k : ℕ). rowsOf (take r (x ∷ t) ++ u) n (literals k)) all (sym len)
+      ∙ lits-back (take r (x ∷ t)) u (suc (length t) - r)
+
+  row-op-back : rowsOf (opBytes x t ++ u) (suc (length t)) (literals 0) ≡ prepend (take (opRows x t) (x ∷ t))
+      (rowsOf u (suc (length t) - opRows x t) (literals 0))
+  row-op-back = go (leb 2 (runLength 127 x (x ∷ t))) refl
+    where
+      whole : List ℕ → ℕ → Type 0
+      whole p r = rowsOf (p ++ u) (suc (length t)) (literals 0) ≡ prepend (take r (x ∷ t)) (rowsOf u (suc (length t) - r) (literals 0))
+
+      go : (p : Bool) → leb 2 (runLength 127 x (x ∷ t)) ≡ p → whole (opBytes x t) (opRows x t)
+      go true e =
+          let k = run-le x 127 (x ∷ t) in
+          rw (op-bytes-cases x t true e, op-rows-cases x t true e) (run-back (runLength 127 x (x ∷ t)) (leb-true 2 (runLength 127 x (x ∷ t)) e) (k .0) (k .1)
+          (run-take x 127 (x ∷ t)))
+      go false e =
+          let k = literal-le 127 (x ∷ t) in
+          let h = literal-some 125 x t (leb-false 2 (runLength 127 x (x ∷ t)) e) in
+          rw (op-bytes-cases x t false e, op-rows-cases x t false e) (literal-back (literalLength 127 (x ∷ t)) h (k .0) (k .1))
+
+-- The operations of every list of rows read back as those rows.
+pub row-ops-back : (n : ℕ) (l : List ℕ) → length l ≤ n → rowsOf (opsBytes 0 l) (length l) (literals 0) ≡ pixels l
+row-ops-back zero [] h = rows-done (opsBytes 0 []) 0 (literals 0) refl
+row-ops-back (suc n) [] h = rows-done (opsBytes 0 []) 0 (literals 0) refl
+row-ops-back zero (x ∷ t) h = absurd (not-suc-le-zero h)
+row-ops-back (suc n) (x ∷ t) h =
+    let r = opRows x t in
+    let k = rows-brought x t in
+    let len : length (drop r (x ∷ t)) ≡ suc (length t) - r = length-drop r (x ∷ t) in
+    ap (λ (b : List ℕ). rowsOf b (suc (length t)) (literals 0)) (row-ops-step x t)
+    ∙ row-op-back x t (opsBytes 0 (drop r (x ∷ t)))
+    ∙ ap (λ (m : ℕ). prepend (take r (x ∷ t)) (rowsOf (opsBytes 0 (drop r (x ∷ t))) m (literals 0))) (sym len)
+    ∙ ap (prepend (take r (x ∷ t))) (row-ops-back n (drop r (x ∷ t)) (omega arith))
+    ∙ ap pixels (take-append-drop r (x ∷ t))
+
+-- rows that are all zero are so many zeros
+pub zeros-all : (l : List ℕ) → allZero l ≡ true → l ≡ replicate (length l) 0
+unfolding allZero
+zeros-all [] e = refl
+zeros-all (x ∷ t) e = go (eqb x 0) refl e (zeros-all t)
+  where
+    go : (p : Bool) → eqb x 0 ≡ p → (p && allZero t) ≡ true → (allZero t ≡ true → t ≡ replicate (length t) 0) → x ∷ t ≡ 0 ∷ replicate (length t) 0
+    go true f g k = ap₂ (λ (y : ℕ) (u : List ℕ). y ∷ u) (eqb-true x 0 f) (k g)
+    go false f g k = absurd (let z : _≡_ {A = ℕ} 0 1 = cc in omega arith)
+
+-- an operation has at most two bytes to a row
+length-row-op : (x : ℕ) (t : List ℕ) → length (opBytes x t) ≤ 2 * opRows x t
+length-row-op x t = go (leb 2 (runLength 127 x (x ∷ t))) refl
+  where
+    go : (p : Bool) → leb 2 (runLength 127 x (x ∷ t)) ≡ p → length (opBytes x t) ≤ 2 * opRows x t
+    go true e =
+        let h = leb-true 2 (runLength 127 x (x ∷ t)) e in
+        rw (op-bytes-cases x t true e, op-rows-cases x t true e) (omega arith)
+    go false e =
+        let h = literal-some 125 x t (leb-false 2 (runLength 127 x (x ∷ t)) e) in
+        let k = literal-le 127 (x ∷ t) in
+        rw (op-bytes-cases x t false e, op-rows-cases x t false e) (omega (arith, length-take-le (literalLength 127 (x ∷ t)) (x ∷ t) (k .1)))
+
+pub length-row-ops : (n : ℕ) (l : List ℕ) → length l ≤ n → length (opsBytes 0 l) ≤ 2 * length l
+unfolding opsBytes
+length-row-ops zero [] h = zero-le
+length-row-ops (suc n) [] h = zero-le
+length-row-ops zero (x ∷ t) h = absurd (not-suc-le-zero h)
+length-row-ops (suc n) (x ∷ t) h =
+    let r = opRows x t in
+    let k = rows-brought x t in
+    let len : length (drop r (x ∷ t)) ≡ suc (length t) - r = length-drop r (x ∷ t) in
+    let more : length (opsBytes 0 (drop r (x ∷ t))) ≤ 2 * length (drop r (x ∷ t)) = length-row-ops n (drop r (x ∷ t)) (omega arith) in
+    let step : length (opsBytes 0 (x ∷ t)) ≡ length (opBytes x t) + length (opsBytes 0 (drop r (x ∷ t))) = ap length (row-ops-step x t) ∙ length-append
+    (opBytes x t) (opsBytes 0 (drop r (x ∷ t))) in
+    omega (arith, length-row-op x t, step)
+
+-- and so has a body
+pub length-rows : (l : List ℕ) → length (rowsBody l) ≤ 2 * length l
+unfolding rowsBody
+length-rows l = go (allZero l)
+  where
+    go : (p : Bool) → length (cond p [] (opsBytes 0 l)) ≤ 2 * length l
+    go true = zero-le
+    go false = length-row-ops (length l) l (le-refl (length l))
+
+-- what a body, or no body, says of the rows
+pub data Back (body l : List ℕ) : Type 0 where
+  none : body ≡ [] → l ≡ replicate (length l) 0 → Back body l
+  some : 1 ≤ length body → rowsOf body (length l) (literals 0) ≡ pixels l → Back body l
+
+row-ops-some : (l : List ℕ) → 1 ≤ length l → 1 ≤ length (opsBytes 0 l)
+row-ops-some [] h = absurd (not-suc-le-zero h)
+row-ops-some (x ∷ t) h =
+    omega (arith, ap length (row-ops-step x t) ∙ length-append (opBytes x t) (opsBytes 0 (drop (opRows x t) (x ∷ t))), row-op-some x t)
+  where
+    row-op-some : (x : ℕ) (t : List ℕ) → 1 ≤ length (opBytes x t)
+    row-op-some x t = go (leb 2 (runLength 127 x (x ∷ t))) refl
+      where
+        go : (p : Bool) → leb 2 (runLength 127 x (x ∷ t)) ≡ p → 1 ≤ length (opBytes x t)
+        go true e = rw (op-bytes-cases x t true e) (omega arith)
+        go false e = rw (op-bytes-cases x t false e) (omega arith)
+
+-- A strip of rows that is written reads back, for every height and content.
+pub rows-back : (l : List ℕ) → 1 ≤ length l → Back (rowsBody l) l
+unfolding rowsBody
+rows-back l h = go (allZero l) refl
+  where
+    go : (p : Bool) → allZero l ≡ p → Back (cond p [] (opsBytes 0 l)) l
+    go true e = none refl (zeros-all l e)
+    go false e = some (row-ops-some l h) (row-ops-back (length l) l (le-refl (length l)))
