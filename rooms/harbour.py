@@ -469,7 +469,7 @@ def main(words):
     subprocess.run(["make", "-s", "write"], stdout=subprocess.DEVNULL, check=True)
     made = room()
     if len(made) > 65536:
-        stop("the room has %d bytes, more than the bench program reads" % len(made))
+        stop("the room has %d bytes, more than ./list reads" % len(made))
     open(folder + "/harbour.room", "wb").write(made)
     open(folder + "/harbour.pal", "wb").write(PALETTE)
 

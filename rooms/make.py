@@ -1,6 +1,6 @@
 #!/usr/bin/env python3
 """Makes the sample rooms cellar.room, raw.room and runs.room, the latter two with the pictures that they must give, and the rooms that the
-bench tests list, with what their listings must be.
+program list_test lists, with what their listings must be.
 
 Run it from the repository's top folder: `python3 rooms/make.py`. The numbers that it expects are written down here from document 01 and
 change request 5, case by case; nothing of the Rattle code is asked.

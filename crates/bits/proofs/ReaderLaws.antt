@@ -36,7 +36,7 @@ module _ (s : List ℕ) (from : ℕ) where
       let o = once l c r in
       (omega (arith, o .0, h .still), omega (arith, o .0, o .1, h .still, h .fewer, length-append l (lowBits n v), length-low n v))
 
--- what `filled` makes of c
+-- what `refill` makes of c
 module _ (s : List ℕ) (c d : Cursor) (f : Fetches s c d) (full : Full s d) where
   pub at-least-25 : (25 ≤ d .bits) ⊎ (d .at ≡ length s)
   at-least-25 = by-cases (decLt (d .bits) 25) (λ few. inr (omega (arith, full (omega arith), f .held .inside))) (λ many. inl (omega (arith, many)))

@@ -1,6 +1,4 @@
 // Rows of operations: for each byte of a strip's bits, what the whole operations at its front take and give (specs/WholeOps.antt).
-ghost use lib.ListN.{length};
-ghost use mathlib.Core.Path.{_≡_};
 ghost use mathlib.Core.Bool.{true, false};
 ghost use Rattle.decode.specs.WholeOps.{Rows};
 

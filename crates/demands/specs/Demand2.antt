@@ -95,13 +95,13 @@ pub record Demand2 : Type 0 where
   pub run-cut : (width k c step : ℕ) (l : List Bool) → 1 ≤ k → length l < 8 → decode true width k 0 c step (runHead ++ l) ≡ refused 7
   -- change request 2, "the bits held and then the bytes not fetched are always the body's bits not yet handed out": c is a cursor over a body that
   -- started before the byte `from` and, through any order of fetches and hand-outs, has handed out the bits l. What a start, a fetch and a hand-out
-  -- are is said by `Starts`, `Fetches` and `Hands`, which crate bits' cursor promises (`new`, `filled`, `take`, `zeros`)
+  -- are is said by `Starts`, `Fetches` and `Hands`, which crate bits' cursor promises (`new`, `refill`, `take`, `zeros`)
   pub bits-in-order : (body : List ℕ) (from : ℕ) (l : List Bool) (c : Cursor) → Reads body from l c
       → bitsOf (drop from body) ≡ l ++ (lowBits (c .bits) (c .hold) ++ bitsOf (drop (c .at) body))
   -- "each byte once": eight bits came in for each byte passed, and they are handed out or held
   pub each-byte-once : (body : List ℕ) (from : ℕ) (l : List Bool) (c : Cursor) → Reads body from l c
       → (from ≤ c .at) × (8 * (c .at - from) ≡ length l + c .bits)
-  -- "it should fetch bytes until it holds at least 25 bits or the body ends": c becomes d by what `filled` promises
+  -- "it should fetch bytes until it holds at least 25 bits or the body ends": c becomes d by what `refill` promises
   pub holds-25 : (body : List ℕ) (c d : Cursor) → Fetches body c d → Full body d → (25 ≤ d .bits) ⊎ (d .at ≡ length body)
   -- "and hand out up to 8 bits": after that, n bits are held unless fewer than n are left at all
   pub eight-held : (body : List ℕ) (c d : Cursor) → Fetches body c d → Full body d → (n : ℕ) → n ≤ 8 → n ≤ length (rest body d) → n ≤ d .bits

@@ -1,4 +1,4 @@
-// The bench program: reads a room of at most 65,536 bytes from standard input and lists it; a longer input is `refused 1` (document 01,
+// The program of ./list: reads a room of at most 65,536 bytes from standard input and lists it; a longer input is `refused 1` (document 01,
 // "What the bench and the player do").
 fn main() {
     let mut buffer = io::large_buffer();

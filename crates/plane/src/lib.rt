@@ -1,8 +1,7 @@
 // One strip of a mask plane: a body to its rows, or the number of its refusal (document 01, "Strips of masks").
 ghost use mathlib.Core.Path.{_≡_};
-ghost use mathlib.Core.List.{_++_};
 ghost use Prim.Native.Nat.{_+_, _≤_};
-ghost use lib.ListN.{length, take, drop};
+ghost use lib.ListN.{length};
 ghost use Rattle.strip.specs.Strip.{madeOf, Filled};
 ghost use Rattle.plane.specs.Mask.{rowsOf, literals, RowsAt};
 use number::buffer::copy;

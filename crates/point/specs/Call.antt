@@ -9,7 +9,6 @@ use Rattle.room.specs.Test.{roomTest, withFlags}
 use Rattle.room.specs.declared.Room.{Room}
 use Rattle.room.specs.declared.Tested.{Tested}
 use Rattle.room.specs.declared.Tested.the-variants as tested
-use Rattle.scene.specs.Painting as scene
 use Rattle.scene.specs.Session.{rightFor, sceneOf}
 use Rattle.stored.specs.Bytes.{sessionOf}
 use Rattle.layers.specs.Decoded.{decoded}

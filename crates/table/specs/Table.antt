@@ -1,7 +1,7 @@
 -- The table of strip offsets at the head of an SMAP or ZP block (document 01, "Strips of pixels", "Strips of masks"; refusal 5).
 -- The block stands in [b, z) of the room's bytes s, its header included, and has n strips. `mask` says which of the two it is:
 -- false for SMAP (u32 offsets), true for ZP (u16 offsets, of which 0 means that the strip has no body). Offsets count from the header.
-use Prim.Native.Nat.{ℕ, zero, suc, _+_, _-_, _*_, _≤_, _<_}
+use Prim.Native.Nat.{ℕ, zero, suc, _+_, _-_, _*_}
 use mathlib.Core.List.{List}
 use mathlib.Core.Bool.{Bool, true, false, _&&_, cond}
 use lib.Dec.{leb, ltb, eqb}

@@ -1,7 +1,6 @@
 // Runs bodies whose decoding is written down elsewhere and writes what they read to, in hexadecimal: document 01's worked rows, the 39-byte
 // strip of source 000, and each code of "Strips of pixels". The file stdout holds what they must be.
 ghost use Prim.Native.Nat.{_≤_, _*_};
-ghost use lib.ListN.{length};
 use block_writer::Wrote;
 use strip::Answer;
 use strip::Made;
