@@ -36,56 +36,6 @@ is-open-returns : (t : ℕ) → is-open-lts.Need-returns (
 ) (is-open-at t) is-open.Post
 is-open-returns t c = climb-out _ _ _ _ (c .if1 .taken)
 
-is-open-mul-wide-u32 : (t : ℕ) → is-open-lts.Need-mul-wide-u32 (
-  wide-u32-reads.Asked,
-  wide-u32-reads.Learnt,
-  lets-reads.Asked,
-  lets-reads.Learnt,
-  is-open-below t,
-  is-open.Post,
-) (is-open-at t) is-open.Post
-is-open-mul-wide-u32 t c = search needs
-
-is-open-add-wide-u32 : (t : ℕ) → is-open-lts.Need-add-wide-u32 (
-  wide-u32-reads.Asked,
-  wide-u32-reads.Learnt,
-  lets-reads.Asked,
-  lets-reads.Learnt,
-  is-open-below t,
-  is-open.Post,
-) (is-open-at t) is-open.Post
-is-open-add-wide-u32 t c = search needs
-
-is-open-mul-wide-u32-2 : (t : ℕ) → is-open-lts.Need-mul-wide-u32-2 (
-  wide-u32-reads.Asked,
-  wide-u32-reads.Learnt,
-  lets-reads.Asked,
-  lets-reads.Learnt,
-  is-open-below t,
-  is-open.Post,
-) (is-open-at t) is-open.Post
-is-open-mul-wide-u32-2 t c = search needs
-
-is-open-shared-slice-read-wide-u32 : (t : ℕ) → is-open-lts.Need-shared-slice-read-wide-u32 (
-  wide-u32-reads.Asked,
-  wide-u32-reads.Learnt,
-  lets-reads.Asked,
-  lets-reads.Learnt,
-  is-open-below t,
-  is-open.Post,
-) (is-open-at t) is-open.Post
-is-open-shared-slice-read-wide-u32 t c = search needs
-
-is-open-wide-u32-requires : (t : ℕ) → is-open-lts.Need-wide-u32-requires (
-  wide-u32-reads.Asked,
-  wide-u32-reads.Learnt,
-  lets-reads.Asked,
-  lets-reads.Learnt,
-  is-open-below t,
-  is-open.Post,
-) (is-open-at t) is-open.Post
-is-open-wide-u32-requires t c κs = search needs
-
 is-open-returns-2 : (t : ℕ) → is-open-lts.Need-returns-2 (
   wide-u32-reads.Asked,
   wide-u32-reads.Learnt,
@@ -107,96 +57,6 @@ is-open-returns-3 : (t : ℕ) → is-open-lts.Need-returns-3 (
 is-open-returns-3 t c =
     let wide-u32 = c .before .before .wide-u32 in let if1 = c .before .before .before .before .if1 in
     climb-gone _ _ _ _ (if1 .left) (λ e. c .before .if2 .left (wide-u32 .ensures .0 ∙ e)) (omega (arith, wide-u32 .ensures .0))
-
-is-open-mul-lets : (t : ℕ) → is-open-lts.Need-mul-lets (
-  wide-u32-reads.Asked,
-  wide-u32-reads.Learnt,
-  lets-reads.Asked,
-  lets-reads.Learnt,
-  is-open-below t,
-  is-open.Post,
-) (is-open-at t) is-open.Post
-is-open-mul-lets t c = search needs
-
-is-open-add-lets : (t : ℕ) → is-open-lts.Need-add-lets (
-  wide-u32-reads.Asked,
-  wide-u32-reads.Learnt,
-  lets-reads.Asked,
-  lets-reads.Learnt,
-  is-open-below t,
-  is-open.Post,
-) (is-open-at t) is-open.Post
-is-open-add-lets t c = search needs
-
-is-open-mul-lets-2 : (t : ℕ) → is-open-lts.Need-mul-lets-2 (
-  wide-u32-reads.Asked,
-  wide-u32-reads.Learnt,
-  lets-reads.Asked,
-  lets-reads.Learnt,
-  is-open-below t,
-  is-open.Post,
-) (is-open-at t) is-open.Post
-is-open-mul-lets-2 t c = search needs
-
-is-open-shared-slice-read-lets : (t : ℕ) → is-open-lts.Need-shared-slice-read-lets (
-  wide-u32-reads.Asked,
-  wide-u32-reads.Learnt,
-  lets-reads.Asked,
-  lets-reads.Learnt,
-  is-open-below t,
-  is-open.Post,
-) (is-open-at t) is-open.Post
-is-open-shared-slice-read-lets t c = search needs
-
-is-open-mul-lets-3 : (t : ℕ) → is-open-lts.Need-mul-lets-3 (
-  wide-u32-reads.Asked,
-  wide-u32-reads.Learnt,
-  lets-reads.Asked,
-  lets-reads.Learnt,
-  is-open-below t,
-  is-open.Post,
-) (is-open-at t) is-open.Post
-is-open-mul-lets-3 t c = search needs
-
-is-open-shared-slice-read-lets-2 : (t : ℕ) → is-open-lts.Need-shared-slice-read-lets-2 (
-  wide-u32-reads.Asked,
-  wide-u32-reads.Learnt,
-  lets-reads.Asked,
-  lets-reads.Learnt,
-  is-open-below t,
-  is-open.Post,
-) (is-open-at t) is-open.Post
-is-open-shared-slice-read-lets-2 t c = search needs
-
-is-open-lets-requires : (t : ℕ) → is-open-lts.Need-lets-requires (
-  wide-u32-reads.Asked,
-  wide-u32-reads.Learnt,
-  lets-reads.Asked,
-  lets-reads.Learnt,
-  is-open-below t,
-  is-open.Post,
-) (is-open-at t) is-open.Post
-is-open-lets-requires t c κs = search needs
-
-is-open-sub-is-open : (t : ℕ) → is-open-lts.Need-sub-is-open (
-  wide-u32-reads.Asked,
-  wide-u32-reads.Learnt,
-  lets-reads.Asked,
-  lets-reads.Learnt,
-  is-open-below t,
-  is-open.Post,
-) (is-open-at t) is-open.Post
-is-open-sub-is-open t c = search needs
-
-is-open-is-open-requires : (t : ℕ) → is-open-lts.Need-is-open-requires (
-  wide-u32-reads.Asked,
-  wide-u32-reads.Learnt,
-  lets-reads.Asked,
-  lets-reads.Learnt,
-  is-open-below t,
-  is-open.Post,
-) (is-open-at t) is-open.Post
-is-open-is-open-requires t c κs = search needs
 
 is-open-returns-4 : (t : ℕ) → is-open-lts.Need-returns-4 (
   wide-u32-reads.Asked,
@@ -246,21 +106,21 @@ pub +is-open-spec : {M : Type 1} → statement M
     (is-open-at t)
     is-open.Post
     (is-open-returns t)
-    (is-open-mul-wide-u32 t)
-    (is-open-add-wide-u32 t)
-    (is-open-mul-wide-u32-2 t)
-    (is-open-shared-slice-read-wide-u32 t)
-    (is-open-wide-u32-requires t)
+    (λ c. search needs)
+    (λ c. search needs)
+    (λ c. search needs)
+    (λ c. search needs)
+    (λ c κs. search needs)
     (is-open-returns-2 t)
     (is-open-returns-3 t)
-    (is-open-mul-lets t)
-    (is-open-add-lets t)
-    (is-open-mul-lets-2 t)
-    (is-open-shared-slice-read-lets t)
-    (is-open-mul-lets-3 t)
-    (is-open-shared-slice-read-lets-2 t)
-    (is-open-lets-requires t)
-    (is-open-sub-is-open t)
-    (is-open-is-open-requires t)
+    (λ c. search needs)
+    (λ c. search needs)
+    (λ c. search needs)
+    (λ c. search needs)
+    (λ c. search needs)
+    (λ c. search needs)
+    (λ c κs. search needs)
+    (λ c. search needs)
+    (λ c κs. search needs)
     (is-open-returns-4 t)
     (is-open-returns-5 t)
