@@ -1,7 +1,7 @@
 -- Demand 2's sentence on actors, and what document 01 ("Actors, points, limbs") says of clip levels and of the stamp, as theorems over the
 -- definitions that the calls `hidden` and `stamp` are proved equal to. Assumes nothing.
 use mathlib.Core.Path.{_≡_, refl, sym, ap, _∙_}
-use mathlib.Core.Bool.{Bool, true, false, _&&_, and-false}
+use mathlib.Core.Bool.{Bool, true, false, _&&_, and-false, cond}
 use mathlib.Core.Logic.{_⊎_, inl, inr, _↔_, by-cases}
 use mathlib.Core.List.{List}
 use Prim.Native.Nat.{ℕ, _+_, _*_, _/_, _%_, _≤_, _<_}
@@ -13,7 +13,7 @@ use lib.Arith.{digits-div, digits-mod}
 use lib.Dec.{leb, ltb, eqb}
 use lib.IntN.{ℤ, pos, _+ℤ_}
 use lib.ListN.{length, getD}
-use Rattle.grid.specs.Grid.{pick, upd}
+use Rattle.grid.specs.Grid.{upd}
 use Rattle.grid.proofs.Upd.{length-upd, getD-upd, upd-ext}
 use Rattle.grid.proofs.Box.{cell-lt}
 use Rattle.actor.specs.Hidden.{maskPlace, maskBit, hiddenAt, number, hides, answered}
@@ -123,7 +123,7 @@ module _ (frame masks picture : List ℕ) (w h n width height clear : ℕ) (x y 
         )
 
     -- an opaque pixel inside the room is written exactly when it is not hidden
-    pub opaque-pixel : (colour ≡ clear → ⊥) → new ≡ pick (hiddenAt masks w h n clip p q) old colour
+    pub opaque-pixel : (colour ≡ clear → ⊥) → new ≡ cond (hiddenAt masks w h n clip p q) old colour
     unfolding blended
     opaque-pixel e = one-pixel ∙ rw (ne-eqb colour clear e)
 
@@ -134,7 +134,7 @@ module _ (frame masks picture : List ℕ) (w h n width height clear : ℕ) (x y 
     pub opaque-shown : (colour ≡ clear → ⊥) → ((1 ≤ clip) × (clip ≤ n) × (maskBit masks w h clip p q ≡ 1) → ⊥) → new ≡ colour
     opaque-shown e is-not = opaque-pixel e ∙ shown (hiddenAt masks w h n clip p q) refl
       where
-        shown : (t : Bool) → hiddenAt masks w h n clip p q ≡ t → pick t old colour ≡ colour
+        shown : (t : Bool) → hiddenAt masks w h n clip p q ≡ t → cond t old colour ≡ colour
         shown true is = absurd (is-not (hidden-exactly masks w h n clip p q .0 is))
         shown false is = refl
 
@@ -160,7 +160,7 @@ module _ (frame a b picture : List ℕ) (w h n width height clear : ℕ) (x y : 
       number-same = rw long
 
       within-rows : (i o : ℕ) (t : Bool) (on : Bool) (v : ℕ) → w % 8 ≡ 0 → 0 < w → ltb (i / w) h ≡ t
-          → pick (t && on) (blended a w h n clear clip (i % w) (i / w) v o) o ≡ pick (t && on) (blended b w h n clear clip (i % w) (i / w) v o) o
+          → cond (t && on) (blended a w h n clear clip (i % w) (i / w) v o) o ≡ cond (t && on) (blended b w h n clear clip (i % w) (i / w) v o) o
       within-rows i o true on v whole some e = rw (one-plane w h n clip (i % w) (i / w) a b whole (mod-lt i some) (ltb-true _ _ e) same)
       within-rows i o false on v whole some e = refl
 

@@ -1,13 +1,13 @@
 -- What the tests of a call leave known where they hold. Assumes nothing.
 use mathlib.Core.Path.{_≡_, refl, ap, _∙_}
-use mathlib.Core.Bool.{Bool, true, false, _&&_}
+use mathlib.Core.Bool.{Bool, true, false, _&&_, cond}
 use Prim.Native.Nat.{ℕ, suc, _*_, _/_, _%_, _≤_, _<_}
 use native.Mathlib.Nat.{mul-comm, mul-assoc}
 use native.Mathlib.Omega.{arith}
 use borrow.Author.Tests.{leb-true, ltb-true, eqb-true}
 use lib.Dec.{leb}
 use Rattle.number.proofs.BoolLaws.{both}
-use Rattle.actor.specs.Sizes.{unless, sizesFit, pictureFits, maskBytes, buffersFit, Planes}
+use Rattle.actor.specs.Sizes.{sizesFit, pictureFits, maskBytes, buffersFit, Planes}
 use Rattle.actor.specs.Hidden.{hiddenNumber}
 use Rattle.actor.specs.Stamp.{stampNumber, Buffers}
 
@@ -16,9 +16,9 @@ pub both-are : (a b p q t : Bool) → a ≡ p → b ≡ q → (a && b) ≡ t →
 both-are a b p q t ea eb e = rw (← ea, ← eb) e
 
 -- no refusal: the test holds, and none comes after it
-pub unless-none : (b : Bool) (n rest : ℕ) → unless b (suc n) rest ≡ 0 → (b ≡ true) × (rest ≡ 0)
-unless-none true n rest e = (refl, e)
-unless-none false n rest e = absurd (omega arith)
+pub none-refused : (b : Bool) (n rest : ℕ) → cond b rest (suc n) ≡ 0 → (b ≡ true) × (rest ≡ 0)
+none-refused true n rest e = (refl, e)
+none-refused false n rest e = absurd (omega arith)
 
 pub record Ranges (w h n : ℕ) : Type 0 where
   pub some : 8 ≤ w
@@ -65,9 +65,9 @@ planes len w h n r e = record { wide = r .wide; whole = r .whole; high = r .high
 pub hidden-accepted : (len w h n x y : ℕ) → hiddenNumber len w h n x y ≡ 0 → Planes len w h n × ((x < w) × (y < h))
 unfolding hiddenNumber
 hidden-accepted len w h n x y e =
-    let a = unless-none _ _ _ e in
-    let b = unless-none _ _ _ (a .1) in
-    let c = unless-none _ _ _ (b .1) in
+    let a = none-refused _ _ _ e in
+    let b = none-refused _ _ _ (a .1) in
+    let c = none-refused _ _ _ (b .1) in
     let d = both _ _ (c .0) in
     (planes len w h n (ranges w h n (a .0)) (leb-true _ _ (b .0)), (ltb-true _ _ (d .0), ltb-true _ _ (d .1)))
 
@@ -76,11 +76,11 @@ pub stamp-accepted : (frame masks picture w h n width height : ℕ) → stampNum
     → Buffers frame masks picture w h n width height
 unfolding stampNumber buffersFit
 stamp-accepted frame masks picture w h n width height e =
-    let a = unless-none _ _ _ e in
+    let a = none-refused _ _ _ e in
     let s = both _ _ (a .0) in
     let r = ranges w h n (s .0) in
     let p = picture-ranges width height (s .1) in
-    let c = both _ _ (unless-none _ _ _ (a .1) .0) in
+    let c = both _ _ (none-refused _ _ _ (a .1) .0) in
     let b = both _ _ (c .0) in
     record {
       some = some-width w h n r;

@@ -1,6 +1,6 @@
 -- A picture clipped to the frame, as a box of the frame, is the picture stamped at its signed corner. Assumes nothing.
 use mathlib.Core.Path.{_≡_, refl, sym, _∙_}
-use mathlib.Core.Bool.{Bool, true, false, _&&_, and-assoc, and-false, false≢true}
+use mathlib.Core.Bool.{Bool, true, false, _&&_, and-assoc, and-false, false≢true, cond}
 use mathlib.Core.Logic.{by-cases}
 use mathlib.Core.List.{List}
 use Prim.Native.Nat.{ℕ, _+_, _-_, _*_, _/_, _%_, _≤_, _<_, min}
@@ -11,7 +11,7 @@ use borrow.Author.Tests.{lt-ltb, le-ltb}
 use lib.Dec.{ltb}
 use lib.IntN.{ℤ}
 use lib.ListN.{getD}
-use Rattle.grid.specs.Grid.{pick, upd, within, boxed}
+use Rattle.grid.specs.Grid.{upd, within, boxed}
 use Rattle.number.specs.Number.{ahead, behind}
 use Rattle.actor.specs.Corner.{covers, nth, InFrame}
 use Rattle.actor.specs.declared.corner.Span.{Span}
@@ -32,9 +32,9 @@ module _ (z : ℤ) (size limit p : ℕ) where
       (λ k. within-hi (ahead z) _ p (omega arith) ∙ sym (covers-hi z size p (omega arith) (omega arith))))))
       (λ a. rw (le-ltb p limit (omega arith)) (by-cases (decLt p (ahead z)) (within-lo (ahead z) _ p) (λ b. within-hi (ahead z) _ p (omega arith))))
 
-pick-same : (b d : Bool) (u v o : ℕ) → b ≡ d → (b ≡ true → u ≡ v) → pick b u o ≡ pick d v o
-pick-same true d u v o e h = rw (← e) (h refl)
-pick-same false d u v o e h = rw (← e)
+cond-same : (b d : Bool) (u v o : ℕ) → b ≡ d → (b ≡ true → u ≡ v) → cond b u o ≡ cond d v o
+cond-same true d u v o e h = rw (← e) (h refl)
+cond-same false d u v o e h = rw (← e)
 
 module _ (masks picture : List ℕ) (w h n width height clear clip : ℕ) (x y : ℤ) (across down : Span) (some : 0 < w)
     (is-across : InFrame x width w across) (is-down : InFrame y height h down)
@@ -62,7 +62,7 @@ module _ (masks picture : List ℕ) (w h n width height clear clip : ℕ) (x y :
         ≡ (ltb (i / w) h && (covers y height (i / w) && covers x width (i % w))) =
         rw (is-down .start, is-down .count, is-across .start, is-across .count, axis y height h (i / w), axis x width w (i % w), lt-ltb (i % w) w inw)
         (and-assoc (ltb (i / w) h) (covers y height (i / w)) (covers x width (i % w))) in
-        pick-same _ _ _ _ _ same
+        cond-same _ _ _ _ _ same
         (λ t. within-cases (down .start) (down .count) (i / w)
         (λ a b. within-cases (across .start) (across .count) (i % w)
         (λ c d. stamp-value (i % w) (i / w) o (omega (arith, is-across .start)) (omega (arith, is-down .start)))

@@ -16,6 +16,8 @@ covers z n p = leZ z (pos p) && ltZ (pos p) (z +ℤ pos n)
 abbrev pub nth : ℤ → ℕ → ℕ
 nth z p = natAbs (pos p -ℤ z)
 
+-- ---- for the proofs: no public promise rests on what follows
+
 -- a span is the part in a frame of limit places of a picture of size places whose corner is z
 pub record InFrame (z : ℤ) (size limit : ℕ) (s : Span) : Type 0 where
   pub start : s .start ≡ ahead z

@@ -4,7 +4,7 @@ use mathlib.Core.List.{List}
 use Prim.Native.Nat.{ℕ, _+_, _-_, _*_, _/_, _%_, _^_}
 use lib.Dec.{leb, ltb, eqb}
 use lib.ListN.{length, getD}
-use Rattle.actor.specs.Sizes.{unless, sizesFit, maskBytes}
+use Rattle.actor.specs.Sizes.{sizesFit, maskBytes}
 use Rattle.actor.specs.declared.Answer.{Answer}
 use Rattle.actor.specs.declared.Answer.the-variants.{Refused, Hidden}
 
@@ -22,7 +22,7 @@ hiddenAt masks w h n clip x y = leb 1 clip && (leb clip n && eqb (maskBit masks 
 
 -- the number of the question: sizes, then the length of the masks, then a point of the room, whatever the clip level
 unfoldable pub hiddenNumber : (masks w h n x y : ℕ) → ℕ
-hiddenNumber masks w h n x y = unless (sizesFit w h n) 3 (unless (leb (maskBytes w h n) masks) 4 (unless (ltb x w && ltb y h) 14 0))
+hiddenNumber masks w h n x y = cond (sizesFit w h n) (cond (leb (maskBytes w h n) masks) (cond (ltb x w && ltb y h) 0 14) 4) 3
 
 -- document 01's number for each case of an answer: hidden or not, the question is accepted
 abbrev pub number : Answer → ℕ
@@ -33,6 +33,10 @@ number (Hidden is) = 0
 abbrev pub hides : Answer → Bool
 hides (Refused n) = false
 hides (Hidden is) = is
+
+-- and its value: 1 where it says so, else 0
+abbrev pub value : Answer → ℕ
+value a = cond (hides a) 1 0
 
 -- the answer of number n where the pixel is hidden or not
 unfoldable pub answered : ℕ → Bool → Answer

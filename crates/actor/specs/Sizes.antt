@@ -1,13 +1,8 @@
 -- The sizes that a call on an actor may be given, and the lengths of its lent buffers (document 01, "Sizes"). Assumes nothing.
-use mathlib.Core.Bool.{Bool, true, false, _&&_}
+use mathlib.Core.Bool.{Bool, _&&_}
 use mathlib.Core.Path.{_≡_}
 use Prim.Native.Nat.{ℕ, _*_, _/_, _%_, _≤_}
 use lib.Dec.{leb, eqb}
-
--- the refusal n unless the test holds, else what comes after it in document 01's order
-abbrev pub unless : Bool → ℕ → ℕ → ℕ
-unless true n rest = rest
-unless false n rest = n
 
 -- width w a multiple of 8, 8 to 1,024; height h 1 to 200; planes n 0 to 4
 unfoldable pub sizesFit : (w h n : ℕ) → Bool
@@ -24,6 +19,8 @@ maskBytes w h n = n * (w / 8) * h
 -- a frame of w by h, the masks and a picture are not longer than the buffers lent for them
 unfoldable pub buffersFit : (frame masks picture w h n width height : ℕ) → Bool
 buffersFit frame masks picture w h n width height = leb (w * h) frame && leb (maskBytes w h n) masks && leb (width * height) picture
+
+-- ---- for the proofs: no public promise rests on what follows
 
 -- n planes for a room of w by h stand in len bytes; what the tests above leave for the code that reads the masks
 pub record Planes (len w h n : ℕ) : Type 0 where

@@ -6,27 +6,27 @@ use Prim.Native.Nat.{ℕ, _+_, _*_, _/_, _%_, _≤_, _<_}
 use lib.Dec.{ltb, eqb}
 use lib.IntN.{ℤ}
 use lib.ListN.{getD, length}
-use Rattle.grid.specs.Grid.{pick, upd}
-use Rattle.actor.specs.Sizes.{unless, sizesFit, pictureFits, buffersFit, Planes}
+use Rattle.grid.specs.Grid.{upd}
+use Rattle.actor.specs.Sizes.{sizesFit, pictureFits, buffersFit, Planes}
 use Rattle.actor.specs.Hidden.{hiddenAt}
 use Rattle.actor.specs.Corner.{covers, nth}
 use Rattle.actor.specs.declared.corner.Span.{Span}
 
 -- the picture's colour v at (x, y) of the frame, over o: o stays below a clear pixel and where the pixel is hidden
 unfoldable pub blended : List ℕ → (w h n clear clip x y v o : ℕ) → ℕ
-blended masks w h n clear clip x y v o = pick (eqb v clear || hiddenAt masks w h n clip x y) o v
+blended masks w h n clear clip x y v o = cond (eqb v clear || hiddenAt masks w h n clip x y) o v
 
 -- what the stamp makes of the frame's byte i, which is o: the byte is pixel (i mod w, i / w), unless i is past the frame's rows
 unfoldable pub stamped : (masks picture : List ℕ) (w h n width height clear : ℕ) (x y : ℤ) (clip i o : ℕ) → ℕ
 stamped masks picture w h n width height clear x y clip i o =
-    pick (ltb (i / w) h && (covers y height (i / w) && covers x width (i % w)))
+    cond (ltb (i / w) h && (covers y height (i / w) && covers x width (i % w)))
     (blended masks w h n clear clip (i % w) (i / w) (getD picture (nth y (i / w) * width + nth x (i % w)) 0) o)
     o
 
 -- the number of a call, by the lengths of its buffers: sizes, then lengths
 unfoldable pub stampNumber : (frame masks picture w h n width height : ℕ) → ℕ
 stampNumber frame masks picture w h n width height =
-    unless (sizesFit w h n && pictureFits width height) 3 (unless (buffersFit frame masks picture w h n width height) 4 0)
+    cond (sizesFit w h n && pictureFits width height) (cond (buffersFit frame masks picture w h n width height) 0 4) 3
 
 -- the frame after a call: stamped where it is accepted, else as it was
 unfoldable pub stampFrame : (frame masks picture : List ℕ) (w h n width height clear : ℕ) (x y : ℤ) (clip : ℕ) → List ℕ
@@ -35,7 +35,8 @@ stampFrame frame masks picture w h n width height clear x y clip =
     (upd (stamped masks picture w h n width height clear x y clip) frame)
     frame
 
--- ---- how the code goes about it
+-- ---- for the proofs: no public promise rests on what follows
+
 -- the pixel at column c and row r of the part of the picture that lies in the frame
 unfoldable pub stampBox : (masks picture : List ℕ) (w h n width clear clip : ℕ) (across down : Span) (c r o : ℕ) → ℕ
 stampBox masks picture w h n width clear clip across down c r o =

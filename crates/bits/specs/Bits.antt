@@ -36,10 +36,6 @@ pull zero l = got 0 l
 pull (suc n) [] = short
 pull (suc n) (b ∷ l) = below b (pull n l)
 
--- four bytes, the first lowest
-abbrev pub wordAt : List ℕ → ℕ → ℕ
-wordAt s at = getD s at 0 + (getD s (at + 1) 0 + (getD s (at + 2) 0 + getD s (at + 3) 0 * 256) * 256) * 256
-
 -- the bits that a cursor has not handed out: those held, then those of the bytes not fetched
 unfoldable pub rest : List ℕ → Cursor → List Bool
 rest s c = lowBits (c .bits) (c .hold) ++ bitsOf (drop (c .at) s)
@@ -53,3 +49,9 @@ pub record Held (s : List ℕ) (c : Cursor) : Type 0 where
 -- at least 56 bits are held, or all that are left
 abbrev pub Full : List ℕ → Cursor → Type 0
 Full s c = c .bits < 56 → length s ≤ c .at
+
+-- ---- for the proofs: no public promise rests on what follows
+
+-- four bytes, the first lowest
+abbrev pub wordAt : List ℕ → ℕ → ℕ
+wordAt s at = getD s at 0 + (getD s (at + 1) 0 + (getD s (at + 2) 0 + getD s (at + 3) 0 * 256) * 256) * 256

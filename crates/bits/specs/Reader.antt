@@ -29,6 +29,15 @@ pub record Hands (n v : ℕ) (c d : Cursor) : Type 0 where
   pub front : (s : List ℕ) → pull n (rest s c) ≡ got v (rest s d)
   pub held : (s : List ℕ) → Held s c → Held s d
 
+-- a reader of the body s that started before the byte `from`, through any order of fetches and hand-outs: it has handed out the bits l and
+-- stands at c
+pub data Reads (s : List ℕ) (from : ℕ) : List Bool → Cursor → Type 0 where
+  starts : {c : Cursor} → Starts from c → Reads s from [] c
+  fetches : {l : List Bool} {c d : Cursor} → Reads s from l c → Fetches s c d → Reads s from l d
+  hands : {l : List Bool} {c d : Cursor} {n v : ℕ} → Reads s from l c → Hands n v c d → Reads s from (l ++ lowBits n v) d
+
+-- ---- for the proofs: no public promise rests on what follows
+
 -- v is the n-bit number at the head of what c has not handed out
 abbrev pub Shows : (n v : ℕ) → Cursor → Type 0
 Shows n v c = (s : List ℕ) → (l : List Bool) × (pull n (rest s c) ≡ got v l)
@@ -36,10 +45,3 @@ Shows n v c = (s : List ℕ) → (l : List Bool) × (pull n (rest s c) ≡ got v
 -- a 1 bit comes first
 abbrev pub One : List Bool → Type 0
 One l = (t : List Bool) × (l ≡ true ∷ t)
-
--- a reader of the body s that started before the byte `from`, through any order of fetches and hand-outs: it has handed out the bits l and
--- stands at c
-pub data Reads (s : List ℕ) (from : ℕ) : List Bool → Cursor → Type 0 where
-  starts : {c : Cursor} → Starts from c → Reads s from [] c
-  fetches : {l : List Bool} {c d : Cursor} → Reads s from l c → Fetches s c d → Reads s from l d
-  hands : {l : List Bool} {c d : Cursor} {n v : ℕ} → Reads s from l c → Hands n v c d → Reads s from (l ++ lowBits n v) d

@@ -1,6 +1,6 @@
 -- Laws of the outcome: it is what the decode comes to, and it goes on past an operation as the decode does.
 use mathlib.Core.Path.{_≡_, refl, sym, ap, _∙_}
-use mathlib.Core.Bool.{Bool, true, false}
+use mathlib.Core.Bool.{Bool, true, false, cond}
 use mathlib.Core.List.{List, [], _∷_}
 use Prim.Native.Nat.{ℕ, zero, suc, _*_, _≤_}
 use lib.Dec.{leb, eqb}
@@ -9,7 +9,7 @@ use native.Mathlib.Omega.{arith}
 use Rattle.bits.specs.Bits.{Pull, short, got, pull, bitsOf}
 use Rattle.strip.specs.declared.Made.{Made}
 use Rattle.strip.specs.declared.Made.the-variants.{All, Refused}
-use Rattle.strip.specs.Strip.{plus, minus, Move, refuse, go, choose, walkOp, runOp, changeOp, opOf, measured, moveOf, Strip, refused, pixels, madeOf, onto}
+use Rattle.strip.specs.Strip.{plus, minus, Move, refuse, go, walkOp, runOp, changeOp, opOf, measured, moveOf, Strip, refused, values, madeOf, onto}
 use Rattle.strip.specs.Strip.{decode}
 use Rattle.strip.specs.Picture.{shown, codedOf}
 use Rattle.decode.specs.Outcome.{outcome, testOf}
@@ -21,9 +21,9 @@ abbrev bare : Move → Move
 bare (refuse n) = refuse n
 bare (go left c s l) = go left 0 0 l
 
-bare-choose : (t : Bool) (a b : Move) → bare (choose t a b) ≡ choose t (bare a) (bare b)
-bare-choose true a b = refl
-bare-choose false a b = refl
+bare-cond : (t : Bool) (a b : Move) → bare (cond t a b) ≡ cond t (bare a) (bare b)
+bare-cond true a b = refl
+bare-cond false a b = refl
 
 bare-walk : (c s : ℕ) (l : List Bool) → bare (walkOp c s l) ≡ bare (walkOp 0 0 l)
 bare-walk c s [] = refl
@@ -38,8 +38,8 @@ bare-change : (c s : ℕ) (p : Pull) → bare (changeOp c s p) ≡ bare (changeO
 bare-change c s short = refl
 bare-change c s (got d l) = go-on (eqb d 4)
   where
-    go-on : (t : Bool) → bare (choose t (runOp c s (pull 8 l)) (go 0 (minus (plus c d) 4) s l)) ≡ bare
-        (choose t (runOp 0 0 (pull 8 l)) (go 0 (minus (plus 0 d) 4) 0 l))
+    go-on : (t : Bool) → bare (cond t (runOp c s (pull 8 l)) (go 0 (minus (plus c d) 4) s l)) ≡ bare
+        (cond t (runOp 0 0 (pull 8 l)) (go 0 (minus (plus 0 d) 4) 0 l))
     go-on true = bare-run c s (pull 8 l)
     go-on false = refl
 
@@ -53,7 +53,7 @@ bare-op true w c s (true ∷ true ∷ l) = bare-change c s (pull 3 l)
 
 bare-measured : (k : ℕ) (m : Move) → bare (measured k m) ≡ measured k (bare m)
 bare-measured k (refuse n) = refl
-bare-measured k (go left c s l) = bare-choose (leb left k) (go left c s l) (refuse 8)
+bare-measured k (go left c s l) = bare-cond (leb left k) (go left c s l) (refuse 8)
 
 bare-move : (second : Bool) (w k left c s : ℕ) (l : List Bool) → bare (moveOf second w k left c s l) ≡ bare (moveOf second w k left 0 0 l)
 bare-move second w k zero c s l =
@@ -71,7 +71,7 @@ onward-bare second w k (go left c s l) = refl
 
 made-onto : (c : ℕ) (x : Strip) → madeOf (onto c x) ≡ madeOf x
 made-onto c (refused n) = refl
-made-onto c (pixels xs) = refl
+made-onto c (values xs) = refl
 
 pub outcome-is : (second : Bool) (w k left c s : ℕ) (l : List Bool) → madeOf (decode second w k left c s l) ≡ outcome second w k left l
 unfolding decode outcome
@@ -91,7 +91,7 @@ outcome-is second w (suc k) left c s l =
 
 test-shown : (vertical clear : Bool) (h : ℕ) (x : Strip) → testOf (shown vertical clear h x) ≡ madeOf x
 test-shown vertical clear h (refused n) = refl
-test-shown vertical clear h (pixels xs) = refl
+test-shown vertical clear h (values xs) = refl
 
 pub test-coded : (second vertical clear : Bool) (w h : ℕ) (s : List ℕ) → 2 ≤ length s
     → testOf (codedOf second vertical clear w h (drop 1 s)) ≡ outcome second w (8 * h) 1 (bitsOf (drop 2 s))

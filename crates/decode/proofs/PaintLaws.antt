@@ -14,7 +14,7 @@ use Rattle.strip.specs.declared.State.{State}
 use Rattle.strip.specs.declared.Next.{Next}
 use Rattle.strip.specs.declared.Next.the-variants.{Go, Refuse}
 use Rattle.strip.specs.declared.Made.{Made}
-use Rattle.strip.specs.Strip.{Strip, refused, pixels, prepend, decode}
+use Rattle.strip.specs.Strip.{Strip, refused, values, prepend, decode}
 use Rattle.strip.specs.Place.{opLength, secondBit, Whole, runAhead, ahead, Gives, Stepped, Leads, keptBy}
 use Rattle.strip.proofs.StripLaws.{prepend-prepend, decode-pending}
 use Rattle.strip.proofs.PlaceLaws.{gives-op, gives-kept}
@@ -143,14 +143,14 @@ module _ (second : Bool) (w total : ℕ) where
       ∙ ap (λ (p : List ℕ). prepend p (decode second w (total - 1) 0 c 1 l)) (sym (take-suc-set out 0 c some))
 
   module _ (s : List ℕ) (x : Strip) (out : List ℕ) (st : State) (painted : Painted second w total s x out st) where
-    pub paint-end : st .i ≡ total → x ≡ pixels (take total out)
+    pub paint-end : st .i ≡ total → x ≡ values (take total out)
     unfolding decode
     paint-end e =
         let z : total - st .i ≡ 0 = omega arith in
         painted
         ∙ ap (λ (n : ℕ). prepend (take (st .i) out) (decode second w n 0 (st .colour) (st .step) (rest s (st .cur)))) z
-        ∙ ap pixels (append-nil (take (st .i) out))
-        ∙ ap (λ (n : ℕ). pixels (take n out)) e
+        ∙ ap values (append-nil (take (st .i) out))
+        ∙ ap (λ (n : ℕ). values (take n out)) e
 
     pub paint-no : (n : ℕ) → ahead second w total s st ≡ refused n → x ≡ refused n
     paint-no n e = painted ∙ ap (prepend (take (st .i) out)) e

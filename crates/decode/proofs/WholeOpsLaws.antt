@@ -10,7 +10,7 @@ use lib.Seq.{drop-drop}
 use Rattle.bits.specs.Bits.{got, bitValue, below, pull}
 use Rattle.strip.specs.declared.Made.{Made}
 use Rattle.strip.specs.declared.Made.the-variants as Made
-use Rattle.strip.specs.Strip.{plus, minus, Move, refuse, go, choose, indexOp, runOp, opOf, measured}
+use Rattle.strip.specs.Strip.{plus, minus, Move, refuse, go, indexOp, runOp, opOf, measured}
 use Rattle.decode.specs.Outcome.{outcome}
 use Rattle.decode.specs.WholeOps.{Row, nothing, after, threeBits, wholeOps, reach}
 use Rattle.strip.proofs.StripLaws.{measured-fits}
@@ -46,7 +46,7 @@ outcome-change : (w n : ℕ) (a b c : Bool) (l : List Bool) → eqb (threeBits a
     → outcome true w (suc n) 0 (true ∷ true ∷ a ∷ b ∷ c ∷ l) ≡ outcome true w n 0 l
 outcome-change w n a b c l e =
     let new = minus (plus 0 (threeBits a b c)) 4 in
-    outcome-one true w n (true ∷ true ∷ a ∷ b ∷ c ∷ l) l new 0 (ap (λ (t : Bool). choose t (runOp 0 0 (pull 8 l)) (go 0 new 0 l)) e)
+    outcome-one true w n (true ∷ true ∷ a ∷ b ∷ c ∷ l) l new 0 (ap (λ (t : Bool). cond t (runOp 0 0 (pull 8 l)) (go 0 new 0 l)) e)
 
 -- ---- as many as are counted
 

@@ -1,4 +1,5 @@
 -- What a decode comes to without its colours: no refusal depends on a colour or a step. The test of a strip is this.
+-- For the proofs: no public promise rests on what this page says.
 use Prim.Native.Nat.{ℕ, zero, suc, _+_, _-_, _≤_, _<_}
 use mathlib.Core.Path.{_≡_}
 use mathlib.Core.Bool.{Bool}

@@ -1,5 +1,6 @@
 -- What painting from place to place of a strip comes to. A painting may take many operations at once: that what it paints is the decode's
 -- is said here, once for both methods.
+-- For the proofs: no public promise rests on what this page says.
 use Prim.Native.Nat.{ℕ, _+_, _≤_, _<_}
 use mathlib.Core.Path.{_≡_}
 use mathlib.Core.Bool.{Bool}
@@ -11,7 +12,7 @@ use Rattle.strip.specs.declared.Next.{Next}
 use Rattle.strip.specs.declared.Next.the-variants.{Go, Refuse}
 use Rattle.strip.specs.declared.Made.{Made}
 use Rattle.strip.specs.declared.Made.the-variants.{All, Refused}
-use Rattle.strip.specs.Strip.{Strip, refused, pixels, prepend}
+use Rattle.strip.specs.Strip.{Strip, refused, values, prepend}
 use Rattle.strip.specs.Place.{ahead}
 
 -- x is the pixels painted up to the place st, and then what comes from there on
@@ -36,5 +37,5 @@ Turned second w total s st out out′ (Refuse n) = ahead second w total s st ≡
 
 -- the answer r to a decode x of n pixels into a buffer, which is e after
 abbrev pub Decoded : ℕ → Strip → List ℕ → Made → Type 0
-Decoded n x e All = x ≡ pixels (take n e)
+Decoded n x e All = x ≡ values (take n e)
 Decoded n x e (Refused r) = x ≡ refused r

@@ -1,5 +1,6 @@
 -- The whole operations at the front of a few bits, up to and including the first index: how many bits they take, how many pixels they
 -- give, and whether an index ends them. A test takes many operations at once by these numbers, kept in a table for each byte.
+-- For the proofs: no public promise rests on what this page says.
 use Prim.Native.Nat.{ℕ, suc, _+_, _*_, _/_, _%_, _≤_, _<_}
 use mathlib.Core.Path.{_≡_}
 use lib.ListN.{getD}

@@ -3,7 +3,8 @@ ghost use mathlib.Core.Path.{_≡_};
 ghost use Prim.Native.Nat.{_+_, _*_, _≤_, _<_};
 ghost use mathlib.Core.Bool.{true, false};
 ghost use lib.ListN.{length, getD, take, drop};
-ghost use Rattle.strip.specs.Picture.{sourceOf, upTo, placed, over};
+ghost use Rattle.number.specs.Buffer.{over};
+ghost use Rattle.strip.specs.Picture.{sourceOf, upTo, placed};
 use number::buffer::copy;
 
 // Row y of a strip whose pixels are made by columns, where the rows above it are done. A column further is h pixels further, so that no pixel

@@ -1,6 +1,6 @@
 -- Writes to a grid, cell by cell along a row and row by row down a box, as `upd`. Assumes nothing.
 use mathlib.Core.Path.{_≡_, sym, ap, _∙_}
-use mathlib.Core.Bool.{true, false, and-false, false≢true}
+use mathlib.Core.Bool.{true, false, and-false, false≢true, cond}
 use mathlib.Core.Logic.{_⊎_, inl, inr, by-cases}
 use mathlib.Core.List.{List}
 use Prim.Native.Nat.{ℕ, _+_, _-_, _*_, _/_, _%_, _≤_, _<_}
@@ -11,7 +11,7 @@ use borrow.Author.Tests.{lt-ltb, le-ltb, le-leb, lt-leb, eq-eqb, ne-eqb}
 use lib.Arith.{digits-div, digits-mod, digits-lt}
 use lib.Dec.{eqb}
 use lib.ListN.{length, getD, set}
-use Rattle.grid.specs.Grid.{pick, upd, within, rowed, boxed, Inside}
+use Rattle.grid.specs.Grid.{upd, within, rowed, boxed, Inside}
 use Rattle.grid.proofs.Upd.{getD-upd, upd-ext, upd-upd, upd-id, upd-then, set-upd}
 
 -- a cell stands within its grid
@@ -67,7 +67,7 @@ module _ (w x0 y c : ℕ) (g : ℕ → ℕ → ℕ) (i o : ℕ) where
 module _ (w x0 y c : ℕ) (g : ℕ → ℕ → ℕ) (l : List ℕ) (fits : x0 + c < w) where
   cell-point : (i : ℕ)
       → i < length l
-      → pick (eqb i (y * w + (x0 + c))) (g c (getD (upd (rowed w x0 y c g) l) (y * w + (x0 + c)) 0)) (rowed w x0 y c g i (getD l i 0))
+      → cond (eqb i (y * w + (x0 + c))) (g c (getD (upd (rowed w x0 y c g) l) (y * w + (x0 + c)) 0)) (rowed w x0 y c g i (getD l i 0))
       ≡ rowed w x0 y (c + 1) g i (getD l i 0)
   cell-point i h =
       let j = y * w + (x0 + c) in

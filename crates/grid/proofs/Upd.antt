@@ -1,12 +1,13 @@
 -- The laws of `upd`: its length, its elements, one after another, one store. Assumes nothing.
 use mathlib.Core.Path.{_≡_, refl, sym, ap, ap₂, _∙_}
 use mathlib.Core.List.{List, [], _∷_}
+use mathlib.Core.Bool.{cond}
 use Prim.Native.Nat.{ℕ, zero, suc, _<_}
 use native.Mathlib.Nat.{not-suc-le-zero, le-of-suc-le-suc}
 use native.Mathlib.Omega.{arith}
 use lib.Dec.{eqb, eqb·suc-suc, eqb·zero-suc, eqb·suc-zero}
 use lib.ListN.{length, getD, set}
-use Rattle.grid.specs.Grid.{pick, upd}
+use Rattle.grid.specs.Grid.{upd}
 
 pub length-upd : (f : ℕ → ℕ → ℕ) (l : List ℕ) → length (upd f l) ≡ length l
 unfolding upd
@@ -38,17 +39,17 @@ upd-id f [] h = refl
 upd-id f (x ∷ xs) h = ap₂ _∷_ (h 0 x) (upd-id (λ i. f (suc i)) xs (λ i o. h (suc i) o))
 
 -- one store
-pub upd-set : (l : List ℕ) (j v : ℕ) → set l j v ≡ upd (λ i o. pick (eqb i j) v o) l
+pub upd-set : (l : List ℕ) (j v : ℕ) → set l j v ≡ upd (λ i o. cond (eqb i j) v o) l
 unfolding upd
 upd-set [] j v = refl
-upd-set (x ∷ xs) zero v = ap (_∷_ v) (sym (upd-id (λ i o. pick (eqb (suc i) 0) v o) xs (λ i o. rw eqb·suc-zero)))
+upd-set (x ∷ xs) zero v = ap (_∷_ v) (sym (upd-id (λ i o. cond (eqb (suc i) 0) v o) xs (λ i o. rw eqb·suc-zero)))
 upd-set (x ∷ xs) (suc j) v =
-    ap₂ _∷_ (rw eqb·zero-suc) (upd-set xs j v ∙ upd-ext (λ i o. pick (eqb i j) v o) (λ i o. pick (eqb (suc i) (suc j)) v o) xs (λ i k. rw eqb·suc-suc))
+    ap₂ _∷_ (rw eqb·zero-suc) (upd-set xs j v ∙ upd-ext (λ i o. cond (eqb i j) v o) (λ i o. cond (eqb (suc i) (suc j)) v o) xs (λ i k. rw eqb·suc-suc))
 
 -- a store after a run
-pub set-upd : (f g : ℕ → ℕ → ℕ) (l : List ℕ) (j v : ℕ) → ((i : ℕ) → i < length l → pick (eqb i j) v (f i (getD l i 0)) ≡ g i (getD l i 0))
+pub set-upd : (f g : ℕ → ℕ → ℕ) (l : List ℕ) (j v : ℕ) → ((i : ℕ) → i < length l → cond (eqb i j) v (f i (getD l i 0)) ≡ g i (getD l i 0))
     → set (upd f l) j v ≡ upd g l
-set-upd f g l j v h = upd-set (upd f l) j v ∙ upd-upd (λ i o. pick (eqb i j) v o) f l ∙ upd-ext (λ i o. pick (eqb i j) v (f i o)) g l h
+set-upd f g l j v h = upd-set (upd f l) j v ∙ upd-upd (λ i o. cond (eqb i j) v o) f l ∙ upd-ext (λ i o. cond (eqb i j) v (f i o)) g l h
 
 -- one run after another is one run
 pub upd-then : (f g h : ℕ → ℕ → ℕ) (l px qx : List ℕ) → ((i o : ℕ) → g i (f i o) ≡ h i o) → px ≡ upd f l → qx ≡ upd g px → qx ≡ upd h l

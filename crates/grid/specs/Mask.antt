@@ -1,15 +1,15 @@
 -- What rows of mask bytes make of the bytes below them: they replace them, or their bits are joined (document 01, "Sessions"). Plane k,
 -- strip s, row y stands at ((k - 1) * h + y) * width + s.
-use mathlib.Core.Bool.{Bool}
+-- For the proofs: no public promise rests on what this page says.
+use mathlib.Core.Bool.{Bool, cond}
 use mathlib.Core.List.{List}
 use Prim.Native.Nat.{ℕ, _+_, _*_, _≤_, _<_}
 use lib.Bits.{bitOr}
 use lib.ListN.{getD}
-use Rattle.grid.specs.Grid.{pick}
 
 -- the mask byte v over o: in its place, or the bits of both
 abbrev pub maskOver : Bool → ℕ → ℕ → ℕ
-maskOver replace v o = pick replace v (bitOr o v)
+maskOver replace v o = cond replace v (bitOr o v)
 
 -- the mask byte at row r of a column one strip wide
 abbrev pub rowsOver : List ℕ → Bool → ℕ → ℕ → ℕ → ℕ

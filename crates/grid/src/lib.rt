@@ -6,12 +6,12 @@ ghost use Rattle.grid.specs.Grid.{upd, boxed, Inside};
 ghost use Rattle.grid.specs.Mask.{maskOver, rowsOver, Plane};
 ghost use Rattle.grid.specs.Strip.{pixelOver, stripOver};
 
-// A pixel over the pixel that was there.
-pub fn pixel_over(value: u8, old: u8, transparent: bool) -> u8
-    ensures { λ r. ⌜ r ≡ pixelOver transparent value old ⌝ }
+// A pixel over the pixel that was there; `index` is the transparent one.
+pub fn pixel_over(value: u8, old: u8, index: u8, transparent: bool) -> u8
+    ensures { λ r. ⌜ r ≡ pixelOver index transparent value old ⌝ }
 {
     if transparent {
-        if value == 255 { old } else { value }
+        if value == index { old } else { value }
     } else {
         value
     }
@@ -26,12 +26,13 @@ pub fn blit_strip(
     y0: usize,
     strip: &[u8],
     rows: usize,
+    index: u8,
     transparent: bool,
 )
     requires { ⌜ Inside (length (now pixels)) w h (8 * s) y0 8 rows ⌝ }
     requires { ⌜ 8 * rows ≤ length (now strip) ⌝ }
     ensures { λ _. ⌜ now (pixels .exit)
-        ≡ upd (boxed w (8 * s) y0 8 rows (stripOver (now (strip .entry)) transparent)) (now (pixels .entry)) ⌝ }
+        ≡ upd (boxed w (8 * s) y0 8 rows (stripOver (now (strip .entry)) index transparent)) (now (pixels .entry)) ⌝ }
 {
     let x0 = 8 * s;
     let mut r = 0;
@@ -40,7 +41,7 @@ pub fn blit_strip(
         let from = 8 * r;
         let mut c = 0;
         while c < 8 {
-            pixels[at + c] = pixel_over(strip[from + c], pixels[at + c], transparent);
+            pixels[at + c] = pixel_over(strip[from + c], pixels[at + c], index, transparent);
             c += 1;
         }
         r += 1;

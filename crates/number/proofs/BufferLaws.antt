@@ -4,8 +4,9 @@ use mathlib.Core.List.{List, [], _∷_, _++_, append-assoc}
 use Prim.Native.Nat.{ℕ, zero, suc, _+_, _≤_, _<_}
 use native.Mathlib.Numerals.{add-one}
 use native.Mathlib.Omega.{arith}
-use lib.ListN.{length, getD, take, drop, set, replicate, replicate-append-replicate, length-drop}
+use lib.ListN.{length, getD, take, drop, set, replicate, replicate-append-replicate, length-drop, take-append-drop}
 use lib.Seq.{take-suc, take-suc-set, take-take, take-append-add, length-take-le, drop-drop, drop-set-lt, getD-drop}
+use Rattle.number.specs.Buffer.{over}
 
 -- one byte more after a run p
 store-more : (out d p : List ℕ) (at k b : ℕ) → at + k < length out → take (at + k) out ≡ take at d ++ p
@@ -55,3 +56,10 @@ fill-part out out′ i n k c h le e =
     front zero n h = refl
     front (suc k) zero h = absurd (omega arith)
     front (suc k) (suc n) h = ap {B = List ℕ} (λ l. c ∷ l) (front k n (omega arith))
+
+-- a buffer whose front is xs and whose rest stays
+pub over-of : (xs out d : List ℕ) (n : ℕ) → length xs ≡ n → take n out ≡ xs → drop n out ≡ drop n d → out ≡ over xs d
+unfolding over
+over-of xs out d n len front back =
+    sym (ap (λ (k : ℕ). xs ++ drop k d) len ∙ ap (λ (t : List ℕ). xs ++ t) (sym back) ∙ ap (λ (t : List ℕ). t ++ drop n out) (sym front) ∙ take-append-drop n
+    out)

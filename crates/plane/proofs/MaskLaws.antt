@@ -1,5 +1,6 @@
 -- Laws of the rows of a mask strip: an operation, what it gives, and going on from one place to the next.
 use mathlib.Core.Path.{_≡_, refl, sym, ap, ap₂, _∙_, subst}
+use mathlib.Core.Bool.{Bool, cond}
 use mathlib.Core.List.{List, [], _∷_, _++_, append-nil}
 use Prim.Native.Nat.{ℕ, zero, suc, _+_, _-_, _≤_, _<_}
 use native.Mathlib.Nat.{not-suc-le-zero, sub-zero}
@@ -7,28 +8,17 @@ use native.Mathlib.Numerals.{add-one}
 use native.Mathlib.Omega.{arith}
 use borrow.Author.Tests.{lt-ltb, le-ltb}
 use lib.ListN.{length, take, drop, replicate, getD, length-drop, drop-of-length-le}
+use lib.Dec.{ltb}
 use lib.Seq.{drop-cons, drop-drop}
 use Rattle.strip.specs.declared.Made.{Made}
 use Rattle.strip.specs.declared.Made.the-variants.{All}
-use Rattle.strip.specs.Strip.{Strip, refused, pixels, madeOf, onto, prepend, Filled}
+use Rattle.strip.specs.Strip.{Strip, refused, values, madeOf, onto, prepend, Filled}
 use Rattle.strip.proofs.StripLaws.{prepend-none, prepend-onto, prepend-prepend, made-prepend}
 use Rattle.plane.specs.declared.Rows.{Rows}
 use Rattle.plane.specs.declared.Rows.the-variants.{Literals, Copies, Refuse}
-use Rattle.plane.specs.Mask.{Pending, literals, copies, Plan, past, leaves, planOf, rowsOf, RowsAt}
+use Rattle.plane.specs.Mask.{Pending, literals, copies, rowsIn, pendingOf, rowsOf, RowsAt}
 
-plan-past-literals : (k op : ℕ) → op < 0x80 → k < op → planOf k op ≡ past
-plan-past-literals k op a b = rw (lt-ltb op 0x80 a, lt-ltb k op b)
-
-pub plan-literals : (k op : ℕ) → op < 0x80 → op ≤ k → planOf k op ≡ leaves (literals op)
-plan-literals k op a b = rw (lt-ltb op 0x80 a, le-ltb k op b)
-
-plan-past-copies : (k op : ℕ) → 0x80 ≤ op → k < op - 0x80 → planOf k op ≡ past
-plan-past-copies k op a b = rw (le-ltb op 0x80 a, lt-ltb k (op - 0x80) b)
-
-pub plan-copies : (k op : ℕ) → 0x80 ≤ op → op - 0x80 ≤ k → planOf k op ≡ leaves (copies (op - 0x80))
-plan-copies k op a b = rw (le-ltb op 0x80 a, le-ltb k (op - 0x80) b)
-
-pub rows-done : (t : List ℕ) (n : ℕ) (p : Pending) → n ≡ 0 → rowsOf t n p ≡ pixels []
+pub rows-done : (t : List ℕ) (n : ℕ) (p : Pending) → n ≡ 0 → rowsOf t n p ≡ values []
 unfolding rowsOf
 rows-done [] zero p e = refl
 rows-done (b ∷ t) zero p e = refl
@@ -39,22 +29,31 @@ unfolding rowsOf
 rows-end t zero p h e = absurd (not-suc-le-zero h)
 rows-end t (suc n) p h e = ap (λ (y : List ℕ). rowsOf y (suc n) p) e
 
-module _ (t u : List ℕ) (b : ℕ) (e : t ≡ b ∷ u) where
-  pub rows-op : (n lit : ℕ) (p : Pending) → 0 < n → lit ≤ 0 → planOf n b ≡ leaves p → rowsOf t n (literals lit) ≡ rowsOf u n p
-  unfolding rowsOf
-  rows-op zero lit p h l f = absurd (not-suc-le-zero h)
-  rows-op (suc n) (suc lit) p h l f = absurd (not-suc-le-zero l)
-  rows-op (suc n) zero p h l f =
-      ap (λ (y : List ℕ). rowsOf y (suc n) (literals zero)) e
-      ∙ ap (λ (q : Plan). elim q as (λ _. Strip) [ past ↦ refused 8 | leaves r ↦ rowsOf u (suc n) r ]) f
+-- an operation byte comes first
+rows-op : (t u : List ℕ) (b n : ℕ) → t ≡ b ∷ u → 0 < n → rowsOf t n (literals 0) ≡ cond (ltb n (rowsIn b)) (refused 8) (rowsOf u n (pendingOf b))
+unfolding rowsOf
+rows-op t u b zero e h = absurd (not-suc-le-zero h)
+rows-op t u b (suc n) e h = ap (λ (y : List ℕ). rowsOf y (suc n) (literals zero)) e
 
-  rows-past : (n lit : ℕ) → 0 < n → lit ≤ 0 → planOf n b ≡ past → rowsOf t n (literals lit) ≡ refused 8
-  unfolding rowsOf
-  rows-past zero lit h l f = absurd (not-suc-le-zero h)
-  rows-past (suc n) (suc lit) h l f = absurd (not-suc-le-zero l)
-  rows-past (suc n) zero h l f =
-      ap (λ (y : List ℕ). rowsOf y (suc n) (literals zero)) e
-      ∙ ap (λ (q : Plan). elim q as (λ _. Strip) [ past ↦ refused 8 | leaves r ↦ rowsOf u (suc n) r ]) f
+module _ (t u : List ℕ) (b : ℕ) (e : t ≡ b ∷ u) where
+  module _ (n : ℕ) (more : 0 < n) where
+    rows-past : n < rowsIn b → rowsOf t n (literals 0) ≡ refused 8
+    rows-past lt = rows-op t u b n e more ∙ ap (λ (q : Bool). cond q (refused 8) (rowsOf u n (pendingOf b))) (lt-ltb n (rowsIn b) lt)
+
+    rows-asked : rowsIn b ≤ n → rowsOf t n (literals 0) ≡ rowsOf u n (pendingOf b)
+    rows-asked le = rows-op t u b n e more ∙ ap (λ (q : Bool). cond q (refused 8) (rowsOf u n (pendingOf b))) (le-ltb n (rowsIn b) le)
+
+    pub past-literals : b < 0x80 → n < b → rowsOf t n (literals 0) ≡ refused 8
+    past-literals low lt = rows-past (rw (lt-ltb b 0x80 low) lt)
+
+    pub past-copies : 0x80 ≤ b → n < b - 0x80 → rowsOf t n (literals 0) ≡ refused 8
+    past-copies high lt = rows-past (rw (le-ltb b 0x80 high) lt)
+
+    pub asks-literals : b < 0x80 → b ≤ n → rowsOf t n (literals 0) ≡ rowsOf u n (literals b)
+    asks-literals low le = rows-asked (rw (lt-ltb b 0x80 low) le) ∙ rw (lt-ltb b 0x80 low)
+
+    pub asks-copies : 0x80 ≤ b → b - 0x80 ≤ n → rowsOf t n (literals 0) ≡ rowsOf u n (copies (b - 0x80))
+    asks-copies high le = rows-asked (rw (le-ltb b 0x80 high) le) ∙ rw (le-ltb b 0x80 high)
 
   pub rows-copies : (n m : ℕ) → 0 < n → rowsOf t n (copies m) ≡ prepend (replicate m b) (rowsOf u (n - m) (literals 0))
   unfolding rowsOf
@@ -107,34 +106,28 @@ module _ (s : List ℕ) (at k : ℕ) (pos : 1 ≤ k) where
     size : length u ≡ length s - (at + 1)
     size = length-drop (at + 1) s
 
-    asks : (p : Pending) → planOf k op ≡ leaves p → rowsOf (drop at s) k (literals 0) ≡ rowsOf u k p
-    asks p e = rows-op (drop at s) u op starts k 0 p pos (omega arith) e
-
-    passes : planOf k op ≡ past → RowsAt s at k (Refuse 8)
-    passes e = rows-past (drop at s) u op starts k 0 pos (omega arith) e
-
     pub at-past-literals : op < 0x80 → k < op → RowsAt s at k (Refuse 8)
-    at-past-literals low h = passes (plan-past-literals k op low h)
+    at-past-literals low h = past-literals (drop at s) u op starts k pos low h
 
     pub at-short-literals : op < 0x80 → op ≤ k → length s - at - 1 < op → RowsAt s at k (Refuse 7)
-    at-short-literals low le few = asks (literals op) (plan-literals k op low le) ∙ rows-short op k u le (omega (arith, size))
+    at-short-literals low le few = asks-literals (drop at s) u op starts k pos low le ∙ rows-short op k u le (omega (arith, size))
 
     pub at-literals : op < 0x80 → op ≤ k → op ≤ length s - at - 1 → RowsAt s at k (Literals op)
     at-literals low le room = (
       le,
       omega arith,
-      asks (literals op) (plan-literals k op low le)
+      asks-literals (drop at s) u op starts k pos low le
           ∙ rows-literals op k u le (omega (arith, size))
           ∙ ap (λ (t : List ℕ). prepend (take op u) (rowsOf t (k - op) (literals 0))) (drop-drop op (at + 1) s),
     )
 
     pub at-past-copies : 0x80 ≤ op → k < op - 0x80 → RowsAt s at k (Refuse 8)
-    at-past-copies high h = passes (plan-past-copies k op high h)
+    at-past-copies high h = past-copies (drop at s) u op starts k pos high h
 
     pub at-short-copies : 0x80 ≤ op → op - 0x80 ≤ k → length s - at - 1 < 1 → RowsAt s at k (Refuse 7)
     at-short-copies high le few =
         let end : length s ≤ at + 1 = omega arith in
-        asks (copies (op - 0x80)) (plan-copies k op high le) ∙ rows-end u k (copies (op - 0x80)) pos (drop-of-length-le s end)
+        asks-copies (drop at s) u op starts k pos high le ∙ rows-end u k (copies (op - 0x80)) pos (drop-of-length-le s end)
 
     pub at-copies : 0x80 ≤ op → op - 0x80 ≤ k → 1 ≤ length s - at - 1 → RowsAt s at k (Copies (op - 0x80))
     at-copies high le room =
@@ -142,7 +135,7 @@ module _ (s : List ℕ) (at k : ℕ) (pos : 1 ≤ k) where
         let b = getD s (at + 1) 0 in (
           le,
           omega arith,
-          asks (copies (op - 0x80)) (plan-copies k op high le)
+          asks-copies (drop at s) u op starts k pos high le
               ∙ rows-copies u (drop (at + 1 + 1) s) b (from-at s (at + 1) (omega arith)) k (op - 0x80) pos
               ∙ ap (λ (j : ℕ). prepend (replicate (op - 0x80) b) (rowsOf (drop j s) (k - (op - 0x80)) (literals 0))) next,
         )
@@ -171,7 +164,7 @@ pub rows-all : (t : List ℕ) (p : Pending) (i h : ℕ) (out d : List ℕ) (x : 
 rows-all t p i h out d x e f g = (
   f
       ∙ ap (prepend (take i out)) (rows-done t (h - i) p (omega arith))
-      ∙ ap pixels (append-nil (take i out))
-      ∙ ap (λ (m : ℕ). pixels (take m out)) e,
+      ∙ ap values (append-nil (take i out))
+      ∙ ap (λ (m : ℕ). values (take m out)) e,
   rw e at g,
 )

@@ -1,11 +1,11 @@
 -- One strip of masks (document 01, "Strips of masks"): what its bytes mean, its rows or the number of its refusal, 7 or 8.
 use mathlib.Core.Path.{_≡_}
-use mathlib.Core.Bool.{Bool, true, false}
+use mathlib.Core.Bool.{cond}
 use mathlib.Core.List.{List, [], _∷_}
 use Prim.Native.Nat.{ℕ, zero, suc, _+_, _-_, _≤_}
 use lib.ListN.{length, getD, take, drop, replicate}
 use lib.Dec.{ltb}
-use Rattle.strip.specs.Strip.{Strip, refused, pixels, onto, prepend}
+use Rattle.strip.specs.Strip.{Strip, refused, values, onto, prepend}
 use Rattle.plane.specs.declared.Rows.{Rows}
 use Rattle.plane.specs.declared.Rows.the-variants.{Literals, Copies, Refuse}
 
@@ -14,30 +14,23 @@ pub data Pending : Type 0 where
   literals : ℕ → Pending
   copies : ℕ → Pending
 
--- what an operation byte asks: it passes the end of the strip, or it leaves rows pending
-pub data Plan : Type 0 where
-  past : Plan
-  leaves : Pending → Plan
+-- how many rows an operation byte asks for: below 80 that many literal rows, else (byte − 80) copies of one byte
+abbrev pub rowsIn : (op : ℕ) → ℕ
+rowsIn op = cond (ltb op 0x80) op (op - 0x80)
 
-abbrev pub pick : Bool → Plan → Plan → Plan
-pick true a b = a
-pick false a b = b
+abbrev pub pendingOf : (op : ℕ) → Pending
+pendingOf op = cond (ltb op 0x80) (literals op) (copies (op - 0x80))
 
--- an operation byte with k rows to go: below 80 that many literal rows, else (byte − 80) copies of one byte; passing the end is tested first
-abbrev pub planOf : ℕ → ℕ → Plan
-planOf k op =
-    pick (ltb op 0x80)
-    (pick (ltb k op) past (leaves (literals op)))
-    (pick (ltb k (op - 0x80)) past (leaves (copies (op - 0x80))))
+-- the rows that are still to do, from the bytes that are left: passing the end is tested (8) before missing bytes (7)
+unfoldable pub rowsOf : (bytes : List ℕ) (todo : ℕ) (pending : Pending) → Strip
+rowsOf [] zero pending = values []
+rowsOf [] (suc todo) pending = refused 7
+rowsOf (b ∷ bytes) zero pending = values []
+rowsOf (b ∷ bytes) (suc todo) (copies n) = prepend (replicate n b) (rowsOf bytes (suc todo - n) (literals zero))
+rowsOf (b ∷ bytes) (suc todo) (literals (suc n)) = onto b (rowsOf bytes todo (literals n))
+rowsOf (op ∷ bytes) (suc todo) (literals zero) = cond (ltb (suc todo) (rowsIn op)) (refused 8) (rowsOf bytes (suc todo) (pendingOf op))
 
--- the next k rows, from the bytes that are left
-unfoldable pub rowsOf : List ℕ → ℕ → Pending → Strip
-rowsOf [] zero p = pixels []
-rowsOf [] (suc k) p = refused 7
-rowsOf (b ∷ t) zero p = pixels []
-rowsOf (b ∷ t) (suc k) (copies n) = prepend (replicate n b) (rowsOf t (suc k - n) (literals zero))
-rowsOf (b ∷ t) (suc k) (literals (suc n)) = onto b (rowsOf t k (literals n))
-rowsOf (op ∷ t) (suc k) (literals zero) = elim (planOf (suc k) op) [ past ↦ refused 8 | leaves p ↦ rowsOf t (suc k) p ]
+-- ---- for the proofs: no public promise rests on what follows
 
 -- the answer to the operation at a place, with k rows to go: what the bytes from there on give
 abbrev pub RowsAt : List ℕ → (at k : ℕ) → Rows → Type 0

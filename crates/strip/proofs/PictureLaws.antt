@@ -1,36 +1,48 @@
 -- Laws of a strip's code and of where its pixels lie.
 use mathlib.Core.Path.{_≡_, refl, sym, ap, ap₂, _∙_, subst}
-use mathlib.Core.Bool.{Bool, true, false}
+use mathlib.Core.Bool.{Bool, true, false, cond}
 use mathlib.Core.List.{List, [], _∷_, _++_}
 use Prim.Native.Nat.{ℕ, zero, suc, _+_, _-_, _*_, _/_, _%_, _≤_, _<_}
 use native.Mathlib.Nat.{mul-le-mul-right, add-mul, le-of-eq}
 use native.Mathlib.Numerals.{add-one}
 use native.Mathlib.Omega.{arith}
-use borrow.Author.Tests.{ltb-true, ltb-false, leb-true, lt-ltb, le-ltb}
-use lib.ListN.{length, getD, take, drop, set, length-append, length-drop, take-append-drop, List·getD-append}
+use borrow.Author.Tests.{ltb-true, ltb-false, leb-true, leb-false, lt-ltb, le-ltb, le-leb, lt-leb}
+use lib.ListN.{length, getD, take, drop, set, length-append, length-drop, List·getD-append}
 use lib.Seq.{take-suc, take-suc-set, take-all, getD-take, getD-at}
 use lib.Dec.{leb, ltb}
 use Rattle.strip.specs.declared.Answer.{Answer}
 use Rattle.strip.specs.declared.Answer.the-variants.{Drawn, Refused}
 use Rattle.strip.specs.declared.Kind.{Kind}
+use Rattle.number.proofs.BoolLaws.{both}
+use Rattle.number.specs.Buffer.{over}
+use Rattle.number.proofs.BufferLaws.{over-of}
 use Rattle.bits.specs.Bits.{bitsOf}
 use Rattle.strip.specs.Strip.{decode}
-use Rattle.strip.specs.Picture.{notBelow, fiveFrom, sourceOf, upTo, over, Width, placed, Picture, unless, refusal, picture, rawOf, codedOf, shown}
+use Rattle.strip.specs.Picture.{fiveFrom, sourceOf, upTo, Width, placed, Picture, refusal, picture, rawOf, codedOf, shown}
 use Rattle.strip.specs.Picture.{stripOf, byKind, kindOf, Answered}
 
 pub five-from : (low code : ℕ) → fiveFrom low code ≡ true → (low ≤ code) × (code ≤ low + 4)
 unfolding fiveFrom
-five-from low code e = go (ltb code low) (leb (code - low) 4) refl refl e
+five-from low code e =
+    let w = both (leb low code) (leb code (low + 4)) e in
+    (leb-true low code (w .0), leb-true code (low + 4) (w .1))
+
+-- the two tests of the code, from how far it stands behind the first of the five
+pub five-below : (low code : ℕ) → code < low → false ≡ fiveFrom low code
+unfolding fiveFrom
+five-below low code lt = rw (lt-leb low code lt)
+
+pub five-on : (low code : ℕ) → low ≤ code → leb (code - low) 4 ≡ fiveFrom low code
+unfolding fiveFrom
+five-on low code le = rw (le-leb low code le) (go (leb (code - low) 4) refl)
   where
-    go : (p q : Bool) → ltb code low ≡ p → leb (code - low) 4 ≡ q → notBelow p q ≡ true → (low ≤ code) × (code ≤ low + 4)
-    go true q ep eq e = absurd (let z : _≡_ {A = Bool} true false = sym e in no z)
-      where
-        no : _≡_ {A = Bool} true false → ⊥
-        no z = let y : _≡_ {A = ℕ} 0 1 = cc in omega arith
-    go false q ep eq e =
-        let h = ltb-false code low ep in
-        let k = leb-true (code - low) 4 (eq ∙ e) in
-        omega arith
+    go : (t : Bool) → leb (code - low) 4 ≡ t → leb (code - low) 4 ≡ leb code (low + 4)
+    go true e =
+        let h = leb-true (code - low) 4 e in
+        e ∙ sym (le-leb code (low + 4) (omega arith))
+    go false e =
+        let h = leb-false (code - low) 4 e in
+        e ∙ sym (lt-leb code (low + 4) (omega arith))
 
 -- a strip made by columns has pixel c of row y after c columns and y rows
 pub source-column : (h y c : ℕ) → c < 8 → sourceOf true h (8 * y + c) ≡ c * h + y
@@ -68,12 +80,6 @@ pub upTo-store : (f : ℕ → ℕ) (out : List ℕ) (j v : ℕ) → j < length o
 upTo-store f out j v h e g =
     rw add-one (take-suc-set {A = ℕ} out j v h ∙ ap (λ (p : List ℕ). p ++ (v ∷ [])) e ∙ ap (λ (x : ℕ). upTo f j ++ (x ∷ [])) (sym g))
 
-pub over-of : (xs out d : List ℕ) (n : ℕ) → length xs ≡ n → take n out ≡ xs → drop n out ≡ drop n d → out ≡ over xs d
-unfolding over
-over-of xs out d n len front back =
-    sym (ap (λ (k : ℕ). xs ++ drop k d) len ∙ ap (λ (t : List ℕ). xs ++ t) (sym back) ∙ ap (λ (t : List ℕ). t ++ drop n out) (sym front) ∙ take-append-drop n
-    out)
-
 -- the pixel that stands at j, counted by rows
 abbrev pub pixelAt : Bool → ℕ → List ℕ → ℕ → ℕ
 pixelAt vertical h xs j = getD xs (sourceOf vertical h j) 0
@@ -108,11 +114,11 @@ part-one s = take-all _ _ (le-of-eq (length-drop 1 s))
 
 pub raw-short : (h : ℕ) (t : List ℕ) → length t < 8 * h → rawOf h t ≡ refusal 7
 unfolding rawOf
-raw-short h t lt = ap (λ (few : Bool). unless few (refusal 7) (picture false (placed false h t))) (lt-ltb (length t) (8 * h) lt)
+raw-short h t lt = ap (λ (few : Bool). cond few (refusal 7) (picture false (placed false h t))) (lt-ltb (length t) (8 * h) lt)
 
 pub raw-full : (h : ℕ) (t : List ℕ) → 8 * h ≤ length t → rawOf h t ≡ picture false (placed false h t)
 unfolding rawOf
-raw-full h t le = ap (λ (few : Bool). unless few (refusal 7) (picture false (placed false h t))) (le-ltb (length t) (8 * h) le)
+raw-full h t le = ap (λ (few : Bool). cond few (refusal 7) (picture false (placed false h t))) (le-ltb (length t) (8 * h) le)
 
 module _ (second vertical clear : Bool) (w h : ℕ) where
   pub coded-none : (s : List ℕ) → length s < 2 → codedOf second vertical clear w h (drop 1 s) ≡ refusal 7

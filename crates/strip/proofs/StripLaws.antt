@@ -6,7 +6,7 @@ use Prim.Native.Nat.{ℕ, zero, suc, _+_, _%_, _^_, _≤_, _<_}
 use native.Mathlib.Omega.{arith}
 use borrow.Author.Tests.{le-leb, lt-leb}
 use lib.ListN.{replicate}
-use Rattle.strip.specs.Strip.{minus, Move, refuse, go, opOf, measured, moveOf, Strip, refused, pixels, madeOf, onto, prepend, decode}
+use Rattle.strip.specs.Strip.{minus, Move, refuse, go, opOf, measured, moveOf, Strip, refused, values, madeOf, onto, prepend, decode}
 
 -- what `wrapping_sub_u8` says is the difference modulo 256
 pub minus-of : (a b r : ℕ) → b < 2 ^ 8 → r < 2 ^ 8 → (r + b) % 2 ^ 8 ≡ a → minus a b ≡ r
@@ -22,11 +22,11 @@ measured-past k left c s l h = rw (lt-leb left k h)
 
 pub prepend-none : (x : Strip) → x ≡ prepend [] x
 prepend-none (refused n) = refl
-prepend-none (pixels ys) = refl
+prepend-none (values ys) = refl
 
 pub prepend-onto : (xs : List ℕ) (c : ℕ) (x : Strip) → prepend xs (onto c x) ≡ prepend (xs ++ (c ∷ [])) x
 prepend-onto xs c (refused n) = refl
-prepend-onto xs c (pixels ys) = ap pixels (sym (append-assoc xs (c ∷ []) ys))
+prepend-onto xs c (values ys) = ap values (sym (append-assoc xs (c ∷ []) ys))
 
 module _ (second : Bool) (w n k left c s : ℕ) (l : List Bool) (more : n ≡ suc k) where
   pub decode-go : (left′ c′ s′ : ℕ) (l′ : List Bool) → moveOf second w k left c s l ≡ go left′ c′ s′ l′
@@ -44,17 +44,17 @@ module _ (second : Bool) (w n k left c s : ℕ) (l : List Bool) (more : n ≡ su
 
 pub prepend-prepend : (xs ys : List ℕ) (x : Strip) → prepend xs (prepend ys x) ≡ prepend (xs ++ ys) x
 prepend-prepend xs ys (refused n) = refl
-prepend-prepend xs ys (pixels zs) = ap pixels (sym (append-assoc xs ys zs))
+prepend-prepend xs ys (values zs) = ap values (sym (append-assoc xs ys zs))
 
 pub made-prepend : (xs : List ℕ) (y : Strip) → madeOf (prepend xs y) ≡ madeOf y
 made-prepend xs (refused n) = refl
-made-prepend xs (pixels ys) = refl
+made-prepend xs (values ys) = refl
 
 -- ---- pixels that are pending, and an operation that gives some
 
 onto-prepend : (c : ℕ) (xs : List ℕ) (x : Strip) → onto c (prepend xs x) ≡ prepend (c ∷ xs) x
 onto-prepend c xs (refused n) = refl
-onto-prepend c xs (pixels ys) = refl
+onto-prepend c xs (values ys) = refl
 
 module _ (second : Bool) (w : ℕ) where
   pub decode-pending : (n k c s : ℕ) (l : List Bool) → decode second w (n + k) n c s l ≡ prepend (replicate n c) (decode second w k 0 c s l)

@@ -1,5 +1,6 @@
 -- A place in the decode of a strip, what comes from it on, and what stepping from place to place comes to. A step may take many
 -- operations at once: that what it gives is the decode's is said here, once for both methods.
+-- For the proofs: no public promise rests on what this page says.
 use Prim.Native.Nat.{ℕ, _+_, _-_, _/_, _≤_, _<_}
 use mathlib.Core.Path.{_≡_}
 use mathlib.Core.Bool.{Bool, false, cond, _&&_}

@@ -1,7 +1,8 @@
 // The strip codes, and what each says of its strip.
 ghost use mathlib.Core.Path.{_≡_};
+ghost use mathlib.Core.Bool.{cond};
 ghost use Prim.Native.Nat.{_+_, _-_};
-ghost use Rattle.strip.specs.Picture.{fiveFrom, orElse, kindOf, Width};
+ghost use Rattle.strip.specs.Picture.{fiveFrom, kindOf, Width};
 use crate::Kind;
 
 // Whether the code is one of the five from `low` on.
@@ -25,7 +26,7 @@ fn family(
     other: Kind,
 ) -> Kind
     requires { ⌜ (low ≡ less + 4) × Width other ⌝ }
-    ensures { λ r. ⌜ (r ≡ orElse (fiveFrom low code) (Kind.Coded second vertical clear (code - less)) other) × Width r ⌝ }
+    ensures { λ r. ⌜ (r ≡ cond (fiveFrom low code) (Kind.Coded second vertical clear (code - less)) other) × Width r ⌝ }
 {
     if five(low, code) {
         Kind::Coded {

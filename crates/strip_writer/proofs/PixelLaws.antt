@@ -10,7 +10,7 @@ use lib.ListN.{length, getD, take}
 use lib.Seq.{take-suc, take-all}
 use lib.Dec.{eqb, lit<}
 use Rattle.bits.specs.Bits.{lowBits, bitsOf, got}
-use Rattle.strip.specs.Strip.{plus, minus, go, indexOp, opOf, moveOf, measured, pixels, onto, decode}
+use Rattle.strip.specs.Strip.{plus, minus, go, indexOp, opOf, moveOf, measured, values, onto, decode}
 use Rattle.strip.specs.Picture.{picture, kindOf, codedOf, stripOf, placed, upTo, fiveFrom, shown}
 use Rattle.bits.proofs.BitLaws.{pull-low}
 use Rattle.strip.proofs.StripLaws.{measured-fits, decode-go}
@@ -63,7 +63,7 @@ move-back : (k c s v : ℕ) (l : List Bool) → c < 256 → s < 256 → v < 256
 move-back k c s v l hc hs hv = ap (measured k) (op-back c s v l hc hs hv) ∙ measured-fits k 0 v (stepOf c s v) l zero-le
 
 pub ops-back : (c s : ℕ) (vs : List ℕ) (l : List Bool) → c < 256 → s < 256 → Bytes vs
-    → decode false 8 (length vs) 0 c s (opsBits c s vs ++ l) ≡ pixels vs
+    → decode false 8 (length vs) 0 c s (opsBits c s vs ++ l) ≡ values vs
 unfolding opsBits decode
 ops-back c s [] l hc hs b = refl
 ops-back c s (v ∷ vs) l hc hs b =
@@ -74,7 +74,7 @@ ops-back c s (v ∷ vs) l hc hs b =
 
 -- the first colour is pending at the start
 first-back : (c : ℕ) (vs : List ℕ) (h : ℕ) (l t : List Bool) → 8 * h ≡ suc (length vs) → t ≡ opsBits c 1 vs ++ l → Bytes (c ∷ vs)
-    → decode false 8 (8 * h) 1 c 1 t ≡ pixels (c ∷ vs)
+    → decode false 8 (8 * h) 1 c 1 t ≡ values (c ∷ vs)
 first-back c vs h l t e f b =
     ap₂ (λ (n : ℕ) (u : List Bool). decode false 8 n 1 c 1 u) e f
     ∙ decode-go false 8 (suc (length vs)) (length vs) 1 c 1 (opsBits c 1 vs ++ l) refl 0 c 1 (opsBits c 1 vs ++ l) refl

@@ -10,9 +10,9 @@ use borrow.Author.Tests.{eqb-true, eq-eqb, leb-true, leb-false}
 use lib.ListN.{length, length-append, length-drop, take, drop, replicate, take-append-drop}
 use lib.Seq.{length-take-le}
 use lib.Dec.{eqb, leb}
-use Rattle.strip.specs.Strip.{Strip, refused, pixels, onto, prepend}
-use Rattle.plane.specs.Mask.{literals, copies, leaves, rowsOf}
-use Rattle.plane.proofs.MaskLaws.{plan-literals, plan-copies, rows-op, rows-copies, rows-done}
+use Rattle.strip.specs.Strip.{Strip, refused, values, onto, prepend}
+use Rattle.plane.specs.Mask.{literals, copies, rowsOf}
+use Rattle.plane.proofs.MaskLaws.{asks-literals, asks-copies, rows-copies, rows-done}
 use Rattle.strip.proofs.StripLaws.{prepend-none}
 use Rattle.strip_writer.specs.Rows.{runLength, literalLength, opRows, opBytes, opsBytes, allZero, rowsBody}
 
@@ -122,7 +122,7 @@ row-ops-step x t =
 
 onto-prepend : (x : ℕ) (xs : List ℕ) (s : Strip) → onto x (prepend xs s) ≡ prepend (x ∷ xs) s
 onto-prepend x xs (refused n) = refl
-onto-prepend x xs (pixels ys) = refl
+onto-prepend x xs (values ys) = refl
 
 lits-back : (xs u : List ℕ) (k : ℕ) → rowsOf (xs ++ u) (length xs + k) (literals (length xs)) ≡ prepend xs (rowsOf u k (literals 0))
 unfolding rowsOf
@@ -137,8 +137,8 @@ module _ (x : ℕ) (t u : List ℕ) where
       → rowsOf ((0x80 + r) ∷ x ∷ u) (suc (length t)) (literals 0) ≡ prepend (take r (x ∷ t)) (rowsOf u (suc (length t) - r) (literals 0))
   run-back r two most inside same =
       let back : (0x80 + r) - 0x80 ≡ r = omega arith in
-      rows-op ((0x80 + r) ∷ x ∷ u) (x ∷ u) (0x80 + r) refl (suc (length t)) 0 (copies r) (omega arith) zero-le
-      (plan-copies (suc (length t)) (0x80 + r) (omega arith) (omega arith) ∙ ap (λ (n : ℕ). leaves (copies n)) back)
+      asks-copies ((0x80 + r) ∷ x ∷ u) (x ∷ u) (0x80 + r) refl (suc (length t)) (omega arith) (omega arith) (omega arith)
+      ∙ ap (λ (n : ℕ). rowsOf (x ∷ u) (suc (length t)) (copies n)) back
       ∙ rows-copies (x ∷ u) u x refl (suc (length t)) r (omega arith)
       ∙ ap (λ (q : List ℕ). prepend q (rowsOf u (suc (length t) - r) (literals 0))) (sym same)
 
@@ -147,8 +147,7 @@ module _ (x : ℕ) (t u : List ℕ) where
   literal-back r one most inside =
       let len : length (take r (x ∷ t)) ≡ r = length-take-le r (x ∷ t) inside in
       let all : suc (length t) ≡ length (take r (x ∷ t)) + (suc (length t) - r) = omega arith in
-      rows-op (r ∷ (take r (x ∷ t) ++ u)) (take r (x ∷ t) ++ u) r refl (suc (length t)) 0 (literals r) (omega arith) zero-le
-      (plan-literals (suc (length t)) r (omega arith) inside)
+      asks-literals (r ∷ (take r (x ∷ t) ++ u)) (take r (x ∷ t) ++ u) r refl (suc (length t)) (omega arith) (omega arith) inside
       ∙ ap₂ (λ (n k : ℕ). rowsOf (take r (x ∷ t) ++ u) n (literals k)) all (sym len)
       ∙ lits-back (take r (x ∷ t)) u (suc (length t) - r)
 
@@ -170,7 +169,7 @@ module _ (x : ℕ) (t u : List ℕ) where
           rw (op-bytes-cases x t false e, op-rows-cases x t false e) (literal-back (literalLength 127 (x ∷ t)) h (k .0) (k .1))
 
 -- The operations of every list of rows read back as those rows.
-pub row-ops-back : (n : ℕ) (l : List ℕ) → length l ≤ n → rowsOf (opsBytes 0 l) (length l) (literals 0) ≡ pixels l
+pub row-ops-back : (n : ℕ) (l : List ℕ) → length l ≤ n → rowsOf (opsBytes 0 l) (length l) (literals 0) ≡ values l
 row-ops-back zero [] h = rows-done (opsBytes 0 []) 0 (literals 0) refl
 row-ops-back (suc n) [] h = rows-done (opsBytes 0 []) 0 (literals 0) refl
 row-ops-back zero (x ∷ t) h = absurd (not-suc-le-zero h)
@@ -182,7 +181,7 @@ row-ops-back (suc n) (x ∷ t) h =
     ∙ row-op-back x t (opsBytes 0 (drop r (x ∷ t)))
     ∙ ap (λ (m : ℕ). prepend (take r (x ∷ t)) (rowsOf (opsBytes 0 (drop r (x ∷ t))) m (literals 0))) (sym len)
     ∙ ap (prepend (take r (x ∷ t))) (row-ops-back n (drop r (x ∷ t)) (omega arith))
-    ∙ ap pixels (take-append-drop r (x ∷ t))
+    ∙ ap values (take-append-drop r (x ∷ t))
 
 -- rows that are all zero are so many zeros
 pub zeros-all : (l : List ℕ) → allZero l ≡ true → l ≡ replicate (length l) 0
@@ -233,7 +232,7 @@ length-rows l = go (allZero l)
 -- what a body, or no body, says of the rows
 pub data Back (body l : List ℕ) : Type 0 where
   none : body ≡ [] → l ≡ replicate (length l) 0 → Back body l
-  some : 1 ≤ length body → rowsOf body (length l) (literals 0) ≡ pixels l → Back body l
+  some : 1 ≤ length body → rowsOf body (length l) (literals 0) ≡ values l → Back body l
 
 row-ops-some : (l : List ℕ) → 1 ≤ length l → 1 ≤ length (opsBytes 0 l)
 row-ops-some [] h = absurd (not-suc-le-zero h)

@@ -9,7 +9,7 @@ use borrow.Author.Tests.{le-leb, lt-leb}
 use lib.ListN.{length, getD, take, drop, set, length-append, length-set, length-drop, drop-of-length-le}
 use lib.Seq.{drop-drop, take-suc-set, drop-set-lt, length-take-le}
 use lib.Dec.{leb}
-use Rattle.strip.specs.Picture.{over}
+use Rattle.number.specs.Buffer.{over}
 use Rattle.strip_writer.specs.Rows.{runLength, literalLength, opRows, opBytes, opsBytes, allZero, rowsBody}
 use Rattle.strip_writer.specs.Place.{pending, OpWritten}
 use Rattle.strip_writer.proofs.RowLaws.{row-ops-step, op-bytes-cases, op-rows-cases, rows-brought}

@@ -10,9 +10,9 @@ use lib.ListN.{length, getD, take, drop, set, length-append}
 use lib.Seq.{drop-cons, drop-drop, length-take-le}
 use lib.ListN.{drop-of-length-le, length-set}
 use lib.Dec.{lit<}
+use Rattle.number.specs.Buffer.{over}
+use Rattle.number.proofs.BufferLaws.{over-of}
 use Rattle.bits.specs.Bits.{lowBits}
-use Rattle.strip.specs.Picture.{over}
-use Rattle.strip.proofs.PictureLaws.{over-of}
 use Rattle.bits.proofs.BitLaws.{length-low}
 use Rattle.strip_writer.specs.declared.BitWriter.{BitWriter}
 use Rattle.strip_writer.specs.declared.Op.{Op}

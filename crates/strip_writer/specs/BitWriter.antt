@@ -1,4 +1,5 @@
 -- A place among the bits that are written, and what the functions that write bits promise of it.
+-- For the proofs: no public promise rests on what this page says.
 use mathlib.Core.Path.{_≡_}
 use mathlib.Core.Bool.{Bool}
 use mathlib.Core.List.{List, _++_}

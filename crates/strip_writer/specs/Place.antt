@@ -1,4 +1,5 @@
 -- How far a strip of mask rows is written, and what one operation more does.
+-- For the proofs: no public promise rests on what this page says.
 use mathlib.Core.Path.{_≡_}
 use mathlib.Core.List.{List, _++_}
 use Prim.Native.Nat.{ℕ, _+_, _≤_, _<_}

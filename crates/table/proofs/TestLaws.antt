@@ -5,7 +5,7 @@ use native.Mathlib.Omega.{arith}
 use borrow.Author.Tests.{eq-eqb, ne-eqb}
 use mathlib.Core.Bool.{true}
 use mathlib.Core.List.{List}
-use Rattle.strip.specs.Strip.{Strip, refused, pixels, madeOf}
+use Rattle.strip.specs.Strip.{Strip, refused, values, madeOf}
 use Rattle.decode.specs.Outcome.{testOf}
 use Rattle.strip.specs.Picture.{Picture, refusal, picture, answerOf}
 use Rattle.strip.specs.declared.Answer.the-variants as answer
@@ -36,23 +36,23 @@ module _ (test : ℕ → Test) where
 -- the test of a strip, from the answer of reading it
 pub tested-passes : (p : Picture) → testOf p ≡ All → Passed ≡ pictureTest p
 tested-passes (refusal n) h = absurd (let z : _≡_ {A = ℕ} 0 1 = cc in omega arith)
-tested-passes (picture t values) h = refl
+tested-passes (picture t pixels) h = refl
 
 pub tested-stops : (p : Picture) (n : ℕ) → testOf p ≡ made.Refused n → Refused n ≡ pictureTest p
 tested-stops (refusal m) n h = ap Refused (let z : n ≡ m = cc in z)
-tested-stops (picture t values) n h = absurd (let z : _≡_ {A = ℕ} 0 1 = cc in omega arith)
+tested-stops (picture t pixels) n h = absurd (let z : _≡_ {A = ℕ} 0 1 = cc in omega arith)
 
 pub refused-stops : (p : Picture) (n : ℕ) → answerOf p ≡ answer.Refused n → Refused n ≡ pictureTest p
 refused-stops (refusal m) n h = ap Refused (let z : n ≡ m = cc in z)
-refused-stops (picture t values) n h = absurd (let z : _≡_ {A = ℕ} 0 1 = cc in omega arith)
+refused-stops (picture t pixels) n h = absurd (let z : _≡_ {A = ℕ} 0 1 = cc in omega arith)
 
 pub made-passes : (x : Strip) → madeOf x ≡ All → Passed ≡ rowsTest x
 made-passes (refused n) h = absurd (let z : _≡_ {A = ℕ} 0 1 = cc in omega arith)
-made-passes (pixels values) h = refl
+made-passes (values rows) h = refl
 
 pub unmade-stops : (x : Strip) (n : ℕ) → madeOf x ≡ made.Refused n → Refused n ≡ rowsTest x
 unmade-stops (refused m) n h = ap Refused (let z : n ≡ m = cc in z)
-unmade-stops (pixels values) n h = absurd (let z : _≡_ {A = ℕ} 0 1 = cc in omega arith)
+unmade-stops (values rows) n h = absurd (let z : _≡_ {A = ℕ} 0 1 = cc in omega arith)
 
 -- a strip of a plane, with no body and with one
 module _ (n h : ℕ) (s : List ℕ) (b z k : ℕ) where

@@ -4,7 +4,7 @@ use mathlib.Core.List.{List, []}
 use mathlib.Core.Bool.{Bool, true, false, cond}
 use lib.ListN.{getD, take, drop, replicate}
 use lib.Dec.{eqb}
-use Rattle.strip.specs.Strip.{Strip, refused, pixels}
+use Rattle.strip.specs.Strip.{Strip, refused, values}
 use Rattle.strip.specs.Picture.{Picture, refusal, picture, stripOf}
 use Rattle.plane.specs.Mask.{rowsOf, literals}
 use Rattle.table.specs.Table.{offsetAt}
@@ -31,16 +31,16 @@ stripAt n h s b z k = stripOf h (bodyOf false n s b z k)
 
 -- strip k of a ZP block: its h rows, or the number of its refusal; offset 0 means all rows zero
 unfoldable pub rowsAt : (n h : ℕ) → List ℕ → (b z k : ℕ) → Strip
-rowsAt n h s b z k = cond (eqb (offsetAt true s b k) 0) (pixels (replicate h 0)) (rowsOf (bodyOf true n s b z k) h (literals 0))
+rowsAt n h s b z k = cond (eqb (offsetAt true s b k) 0) (values (replicate h 0)) (rowsOf (bodyOf true n s b z k) h (literals 0))
 
 -- what was read: no pixels and no rows where it is refused
 abbrev pub pixelsOf : Picture → List ℕ
 pixelsOf (refusal number) = []
-pixelsOf (picture clear values) = values
+pixelsOf (picture clear pixels) = pixels
 
 abbrev pub rowValues : Strip → List ℕ
 rowValues (refused number) = []
-rowValues (pixels values) = values
+rowValues (values rows) = rows
 
 -- the pixel in column x, row y of an SMAP block of n strips
 unfoldable pub pixelAt : (n h : ℕ) → List ℕ → (b z x y : ℕ) → ℕ

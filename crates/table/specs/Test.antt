@@ -3,7 +3,7 @@
 use Prim.Native.Nat.{ℕ, zero, suc, _+_}
 use mathlib.Core.List.{List}
 use mathlib.Core.Bool.{Bool, true, false, cond}
-use Rattle.strip.specs.Strip.{Strip, refused, pixels}
+use Rattle.strip.specs.Strip.{Strip, refused, values}
 use Rattle.strip.specs.Picture.{Picture, refusal, picture}
 use Rattle.table.specs.Table.{tableRight}
 use Rattle.table.specs.Body.{stripAt, rowsAt}
@@ -22,11 +22,11 @@ andThen (Refused n) t = Refused n
 
 abbrev pub pictureTest : Picture → Test
 pictureTest (refusal n) = Refused n
-pictureTest (picture clear values) = Passed
+pictureTest (picture clear pixels) = Passed
 
 abbrev pub rowsTest : Strip → Test
 rowsTest (refused n) = Refused n
-rowsTest (pixels values) = Passed
+rowsTest (values rows) = Passed
 
 -- the test of strip k
 unfoldable pub stripTest : Bool → (n h : ℕ) → List ℕ → (b z k : ℕ) → Test

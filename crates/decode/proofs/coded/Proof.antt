@@ -1,10 +1,11 @@
 use Rattle.strip.proofs.PictureLaws.{answered-no, answered-yes, coded-none, coded-some, coded-empty, placed-take}
 use Rattle.decode.proofs.PaintLaws.{told-drew}
-use Rattle.strip.specs.Picture.{shown, over}
+use Rattle.strip.specs.Picture.{shown}
 use Prim.Native.Nat.{ℕ}
 use mathlib.Core.List.{List}
 use mathlib.Core.Path.{_∙_, ap, sym}
 use denote.Ref.{now}
+use Rattle.number.specs.Buffer.{over}
 use borrow.Author.Needs.{needs}
 use Rattle.decode.proofs.coded.Statement.{statement}
 use Rattle.decode.proofs.coded.Tie as tie

@@ -6,7 +6,8 @@ use mathlib.Core.Bool.{false}
 use Prim.Native.Nat.{ℕ}
 use lib.ListN.{drop, length-drop}
 use native.Mathlib.Omega.{arith}
-use Rattle.strip.specs.Picture.{over, placed}
+use Rattle.number.specs.Buffer.{over}
+use Rattle.strip.specs.Picture.{placed}
 use Rattle.strip.proofs.PictureLaws.{answered-no, answered-yes, part-one, raw-short, raw-full}
 use Rattle.decode.proofs.raw.Statement.{statement}
 use Rattle.decode.proofs.raw.Tie as tie

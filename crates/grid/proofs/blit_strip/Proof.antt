@@ -11,19 +11,19 @@ use Rattle.grid.proofs.blit_strip.Statement.{statement}
 use Rattle.grid.proofs.blit_strip.Tie as tie
 
 abbrev Inv-loop2 : tie.InvT-loop2
-Inv-loop2 pixels₀ w h s y0 strip rows transparent x0 r at from c₀ pixels c =
-    (pixels ≡ upd (rowed w x0 (y0 + r) c (λ k o. stripOver strip transparent k r o)) pixels₀) × (c ≤ 8) × (length pixels ≡ length pixels₀)
+Inv-loop2 pixels₀ w h s y0 strip rows index transparent x0 r at from c₀ pixels c =
+    (pixels ≡ upd (rowed w x0 (y0 + r) c (λ k o. stripOver strip index transparent k r o)) pixels₀) × (c ≤ 8) × (length pixels ≡ length pixels₀)
     × (at + 8 ≤ length pixels₀) × (from + 8 ≤ length strip)
 
 abbrev μ-loop2 : tie.MeasureT-loop2
-μ-loop2 pixels₀ w h s y0 strip rows transparent x0 r at from c₀ pixels c = 8 - c
+μ-loop2 pixels₀ w h s y0 strip rows index transparent x0 r at from c₀ pixels c = 8 - c
 
 abbrev Inv-loop : tie.InvT-loop
-Inv-loop pixels₀ w h s y0 strip rows transparent x0 r₀ pixels r =
-    (pixels ≡ upd (boxed w x0 y0 8 r (stripOver strip transparent)) pixels₀) × (r ≤ rows) × (length pixels ≡ length pixels₀)
+Inv-loop pixels₀ w h s y0 strip rows index transparent x0 r₀ pixels r =
+    (pixels ≡ upd (boxed w x0 y0 8 r (stripOver strip index transparent)) pixels₀) × (r ≤ rows) × (length pixels ≡ length pixels₀)
 
 abbrev μ-loop : tie.MeasureT-loop
-μ-loop pixels₀ w h s y0 strip rows transparent x0 r₀ pixels r = rows - r
+μ-loop pixels₀ w h s y0 strip rows index transparent x0 r₀ pixels r = rows - r
 
 -- the last cell of the row that a turn writes is within the buffer
 module _ (c : tie.In-loop Inv-loop2 μ-loop2 Inv-loop μ-loop) where

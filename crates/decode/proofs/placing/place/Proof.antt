@@ -2,7 +2,8 @@ use mathlib.Core.Path.{ap, sym, _∙_}
 use mathlib.Core.Bool.{Bool}
 use borrow.Author.Needs.{needs}
 use denote.Ref.{now}
-use Rattle.strip.specs.Picture.{placed, over}
+use Rattle.number.specs.Buffer.{over}
+use Rattle.strip.specs.Picture.{placed}
 use Rattle.decode.proofs.placing.place.Statement.{statement}
 use Rattle.decode.proofs.placing.place.Tie as tie
 
