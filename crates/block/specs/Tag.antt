@@ -48,10 +48,10 @@ abbrev pub tag-ZP : ℕ → ℕ
 tag-ZP k = 0x5A50_3030 + k
 
 abbrev pub digit : ℕ → Bool
-digit b = leb 48 b && leb b 57
+digit b = leb 0x30 b && leb b 0x39
 
 -- ROOM, RMIM, OBIM, OBCD, and IM with two decimal digits
 unfoldable pub container : List ℕ → ℕ → Bool
 container s i =
     eqb (be32 s i) tag-ROOM || eqb (be32 s i) tag-RMIM || eqb (be32 s i) tag-OBIM || eqb (be32 s i) tag-OBCD
-    || (eqb (getD s i 0) 73 && eqb (getD s (i + 1) 0) 77 && digit (getD s (i + 2) 0) && digit (getD s (i + 3) 0))
+    || (eqb (getD s i 0) 0x49 && eqb (getD s (i + 1) 0) 0x4D && digit (getD s (i + 2) 0) && digit (getD s (i + 3) 0))

@@ -9,7 +9,7 @@ use native.Mathlib.Omega.{arith}
 use lib.ListN.{length, getD, replicate, length-append, List·getD-eq-default}
 use lib.Dec.{lit<, ltb, eqb}
 use borrow.Author.Tests.{ltb-true, ltb-false, eq-eqb, ne-eqb}
-use Rattle.strip.specs.Strip.{pixels}
+use Rattle.strip.specs.Strip.{values}
 use Rattle.strip.specs.Picture.{upTo, picture, stripOf}
 use Rattle.strip.proofs.PictureLaws.{length-upTo, getD-upTo}
 use Rattle.plane.specs.Mask.{rowsOf, literals}
@@ -19,9 +19,10 @@ use Rattle.strip_writer.specs.Rows.{rowsBody}
 use Rattle.strip_writer.proofs.PixelLaws.{Bytes, strip-back}
 use Rattle.strip_writer.proofs.RowLaws.{Back, none, some, rows-back, length-rows}
 use Rattle.strip_writer.proofs.WritingLaws.{length-strip}
-use Rattle.block_writer.specs.Block.{placeOf, stripBytes, pixelsOfStrip, rowsOfStrip, bodyFor, bodiesFrom, sizeOf}
+use Rattle.block_writer.specs.Block.{placeOf, stripBytes, pixelsOfStrip, rowsOfStrip, bodyFor, bodiesFrom, sizeOf, smapTag, smapBlock}
 use Rattle.block_writer.proofs.StripBytesLaws.{length-strip-bytes}
 use Rattle.block_writer.proofs.BoundLaws.{body-few}
+use Rattle.block_writer.proofs.CallLaws.{length-block}
 use Rattle.block_writer.proofs.PlacedLaws.{most, startOf, Placed, none-is, offset-is, body-is}
 
 -- ---- the bytes of a strip
@@ -79,6 +80,15 @@ unfolding sizeOf
 size-few false n h rows one high few = omega (arith, sum-few false (bodyFor false n h rows) (bodies-few false n h rows one high) 0 n)
 size-few true n h rows one high few = omega (arith, sum-few true (bodyFor true n h rows) (bodies-few true n h rows one high) 0 n)
 
+pub length-smap : (n h : ℕ) (rows : List ℕ) → 1 ≤ h → h ≤ 200 → n ≤ 128 → length (smapBlock n h rows) ≤ 262664
+unfolding sizeOf
+length-smap n h rows one high few =
+    omega (
+      arith,
+      length-block smapTag false n (bodyFor false n h rows),
+      sum-few false (bodyFor false n h rows) (bodies-few false n h rows one high) 0 n,
+    )
+
 -- ---- strip k of a block in its place
 
 pub some-body : (mask : Bool) (n h : ℕ) (rows : List ℕ) → 1 ≤ h → (k : ℕ) → mask ≡ false → 1 ≤ length (bodyFor mask n h rows k)
@@ -98,7 +108,7 @@ module _ (n h : ℕ) (rows s : List ℕ) (b z : ℕ) (one : 1 ≤ h) where
       ap (stripOf h) (body-is false n (bodyFor false n h rows) s b z p k lt (some-body false n h rows one k refl))
       ∙ strip-back h px one len (strip-of-bytes 8 (8 * n) h rows k bytes)
 
-  pub rows-are : Placed true n (bodyFor true n h rows) s b z → (k : ℕ) → k < n → rowsAt n h s b z k ≡ pixels (rowsOfStrip n h rows k)
+  pub rows-are : Placed true n (bodyFor true n h rows) s b z → (k : ℕ) → k < n → rowsAt n h s b z k ≡ values (rowsOfStrip n h rows k)
   unfolding rowsAt bodyFor
   rows-are p k lt = go (rows-back (rowsOfStrip n h rows k) (omega (arith, len)))
     where
@@ -106,10 +116,10 @@ module _ (n h : ℕ) (rows s : List ℕ) (b z : ℕ) (one : 1 ≤ h) where
       len = length-strip-bytes 1 n h rows k ∙ one-mul h
 
       go : Back (rowsBody (rowsOfStrip n h rows k)) (rowsOfStrip n h rows k)
-          → cond (eqb (offsetAt true s b k) 0) (pixels (replicate h 0)) (rowsOf (bodyOf true n s b z k) h (literals 0)) ≡ pixels (rowsOfStrip n h rows k)
+          → cond (eqb (offsetAt true s b k) 0) (values (replicate h 0)) (rowsOf (bodyOf true n s b z k) h (literals 0)) ≡ values (rowsOfStrip n h rows k)
       go (none e zeros) =
           let o : offsetAt true s b k ≡ 0 = none-is true n (bodyFor true n h rows) s b z p k lt (ap length e) in
-          rw (eq-eqb (offsetAt true s b k) 0 o) (ap pixels (sym (zeros ∙ ap (λ (j : ℕ). replicate j 0) len)))
+          rw (eq-eqb (offsetAt true s b k) 0 o) (ap values (sym (zeros ∙ ap (λ (j : ℕ). replicate j 0) len)))
       go (some few e) =
           let o : offsetAt true s b k ≡ startOf true n (bodyFor true n h rows) k = offset-is true n (bodyFor true n h rows) s b z p k lt few in
           rw (ne-eqb (offsetAt true s b k) 0 (λ (w : offsetAt true s b k ≡ 0). omega arith))

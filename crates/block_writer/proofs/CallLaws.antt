@@ -10,12 +10,12 @@ use lib.ListN.{length, take, drop, length-append}
 use lib.Seq.{sets, length-sets}
 use lib.Dec.{leb, eqb}
 use Rattle.number.specs.Number.{be32Bytes}
-use Rattle.strip.specs.Picture.{over}
 use Rattle.block_writer.specs.declared.Wrote.the-variants.{Block, Refused}
 use Rattle.table.specs.Table.{tableEnd}
 use Rattle.block_writer.specs.Block.{tableFrom, bodiesFrom, sizeOf, blockOf, bodyFor}
 use Rattle.block_writer.specs.Call.{sizesAllowed, sourceSize, blockOutcome, Answered}
 use Rattle.number.proofs.BoolLaws.{both}
+use Rattle.number.specs.Buffer.{over}
 use Rattle.block_writer.proofs.PutLaws.{put-to, put-past}
 use Rattle.block_writer.proofs.FillLaws.{length-table}
 

@@ -8,8 +8,8 @@ use native.Mathlib.Omega.{arith}
 use lib.ListN.{length, take, drop, length-append, length-drop}
 use lib.Seq.{sets, drop-drop, length-sets, length-take-le, take-add}
 use Rattle.number.specs.Number.{le16Bytes, le32Bytes}
-use Rattle.strip.specs.Picture.{over}
-use Rattle.strip.proofs.PictureLaws.{over-of}
+use Rattle.number.specs.Buffer.{over}
+use Rattle.number.proofs.BufferLaws.{over-of}
 use Rattle.table.specs.Table.{offsetSize, tableEnd}
 use Rattle.block_writer.specs.Block.{offsetBytes, offsetOf, tableFrom, bodiesFrom}
 use Rattle.block_writer.proofs.PutLaws.{put-before, put-to, put-past, put-tail}

@@ -38,10 +38,10 @@ four-bytes v h =
         ≡ v
     join b0 v1 b1 v2 b2 v3 b3 v p q r s = omega arith
 
-first-at : (p q : List ℕ) (x : ℕ) → getD q 0 0 ≡ x → getD (p ++ q) (length p) 0 ≡ x
+pub first-at : (p q : List ℕ) (x : ℕ) → getD q 0 0 ≡ x → getD (p ++ q) (length p) 0 ≡ x
 first-at p q x e = ap (λ (k : ℕ). getD (p ++ q) k 0) (sym (add-zero (length p))) ∙ getD-append-add p q 0 0 ∙ e
 
-be32-back : (v : ℕ) (p r : List ℕ) → v < 2 ^ 32 → be32 (p ++ (be32Bytes v ++ r)) (length p) ≡ v
+pub be32-back : (v : ℕ) (p r : List ℕ) → v < 2 ^ 32 → be32 (p ++ (be32Bytes v ++ r)) (length p) ≡ v
 unfolding be32Bytes
 be32-back v p r h =
     let q = be32Bytes v ++ r in
@@ -51,6 +51,14 @@ be32-back v p r h =
     let d : getD (p ++ q) (length p + 3) 0 ≡ v % 256 = getD-append-add p q 3 0 in
     omega (arith, four-bytes v h)
 
+pub le16-back : (v : ℕ) (p r : List ℕ) → v < 2 ^ 16 → le16 (p ++ (le16Bytes v ++ r)) (length p) ≡ v
+unfolding le16Bytes
+le16-back v p r h =
+    let q = le16Bytes v ++ r in
+    let x : getD (p ++ q) (length p) 0 ≡ v % 256 = first-at p q (v % 256) refl in
+    let y : getD (p ++ q) (length p + 1) 0 ≡ v / 256 % 256 = getD-append-add p q 1 0 in
+    omega arith
+
 -- what an offset can hold
 abbrev pub most : Bool → ℕ
 most false = 2 ^ 32
@@ -59,11 +67,7 @@ most true = 2 ^ 16
 offset-back : (mask : Bool) (v b k : ℕ) (p r : List ℕ) → v < most mask → length p ≡ b + 8 + offsetSize mask * k → offsetAt mask (p ++ (offsetBytes mask v ++ r))
     b k ≡ v
 unfolding offsetAt offsetBytes le16Bytes le32Bytes
-offset-back true v b k p r h e =
-    let q = offsetBytes true v ++ r in
-    let x : getD (p ++ q) (length p) 0 ≡ v % 256 = first-at p q (v % 256) refl in
-    let y : getD (p ++ q) (length p + 1) 0 ≡ v / 256 % 256 = getD-append-add p q 1 0 in
-    ap (le16 (p ++ q)) (sym e) ∙ omega arith
+offset-back true v b k p r h e = ap (le16 (p ++ (offsetBytes true v ++ r))) (sym e) ∙ le16-back v p r h
 offset-back false v b k p r h e =
     let q = offsetBytes false v ++ r in
     let x : getD (p ++ q) (length p) 0 ≡ v % 256 = first-at p q (v % 256) refl in
@@ -308,13 +312,14 @@ module _ (mask : Bool) (n : ℕ) (f : ℕ → List ℕ) (s : List ℕ) (b z : �
         let fits : tableEnd mask n ≤ z - b = omega (arith, p .end) in
         rw (le-leb (tableEnd mask n) (z - b) fits) (offsets-are n 0 0 (zero-add n) (omega arith))
 
--- ---- the test of a block all of whose strips pass
+-- ---- the leftmost refusal where every test from `low` on passes, and the test of a block all of whose strips pass
 
-leftmost-all : (n : ℕ) (test : ℕ → Test) → ((k : ℕ) → k < n → test k ≡ Passed) → (m k : ℕ) → k + m ≡ n → leftmost test k m ≡ Passed
-leftmost-all n test all zero k e = leftmost-none test k 0 refl
-leftmost-all n test all (suc m) k e = leftmost-pass test k (suc m) m refl (all k (omega arith)) ∙ leftmost-all n test all m (k + 1) (omega arith)
+module _ (low n : ℕ) (test : ℕ → Test) (all : (k : ℕ) → low ≤ k → k < n → test k ≡ Passed) where
+  pub leftmost-all : (m k : ℕ) → low ≤ k → k + m ≡ n → leftmost test k m ≡ Passed
+  leftmost-all zero k le e = leftmost-none test k 0 refl
+  leftmost-all (suc m) k le e = leftmost-pass test k (suc m) m refl (all k le (omega arith)) ∙ leftmost-all m (k + 1) (omega arith) (omega arith)
 
 pub block-passes : (mask : Bool) (n h : ℕ) (s : List ℕ) (b z : ℕ) → tableRight mask n s b z ≡ true → ((k : ℕ) → k < n → stripTest mask n h s b z k ≡ Passed) →
     blockTest mask n h s b z ≡ Passed
 unfolding blockTest
-block-passes mask n h s b z right all = rw right (leftmost-all n (stripTest mask n h s b z) all n 0 (zero-add n))
+block-passes mask n h s b z right all = rw right (leftmost-all 0 n (stripTest mask n h s b z) (λ k le lt. all k lt) n 0 zero-le (zero-add n))

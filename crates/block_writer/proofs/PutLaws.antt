@@ -8,7 +8,7 @@ use lib.ListN.{length, take, drop, length-append, length-drop, drop-of-length-le
 use borrow.Rule.Slice.PartMut.{putMid}
 use lib.Seq.{sets, take-all, take-nil, drop-drop, take-append-le, drop-append-le, take-at, drop-at, take-take, length-take-le}
 use Rattle.number.proofs.StoreLaws.{sets-is}
-use Rattle.strip.specs.Picture.{over}
+use Rattle.number.specs.Buffer.{over}
 use Rattle.strip_writer.proofs.BitWriterLaws.{further}
 
 pub drop-take : (b m : ℕ) (l : List ℕ) → drop b (take (b + m) l) ≡ take m (drop b l)

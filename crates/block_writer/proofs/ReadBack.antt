@@ -7,44 +7,23 @@ use mathlib.Core.List.{List, [], _++_, append-nil}
 use Prim.Native.Nat.{ℕ, _+_, _-_, _*_, _/_, _%_, _^_, _≤_, _<_}
 use native.Mathlib.Nat.{zero-add}
 use native.Mathlib.Omega.{arith}
-use lib.ListN.{length, getD, drop}
+use lib.ListN.{length, getD, take, drop}
+use lib.Seq.{take-at}
 use lib.Dec.{leb, ltb, lit<}
-use borrow.Author.Tests.{leb-true}
+use borrow.Author.Tests.{leb-true, ltb-false}
 use Rattle.number.proofs.BoolLaws.{both}
-use Rattle.number.specs.Number.{be32}
-use Rattle.strip.specs.Strip.{pixels}
-use Rattle.strip.specs.Picture.{over, picture}
+use Rattle.number.specs.Buffer.{over}
 use Rattle.table.specs.Table.{tableRight}
-use Rattle.table.specs.Body.{stripAt, rowsAt, pixelsOf, rowValues, pixelAt, maskAt}
-use Rattle.table.specs.Test.{pictureTest, rowsTest, stripTest, blockTest}
-use Rattle.table.specs.declared.Test.the-variants.{Passed}
+use Rattle.table.specs.Body.{pixelsOf, rowValues, pixelAt, maskAt}
+use Rattle.table.specs.Test.{pictureTest, rowsTest, stripTest}
 use Rattle.strip_writer.proofs.PixelLaws.{Bytes}
-use Rattle.block_writer.specs.Block.{pixelsOfStrip, rowsOfStrip, bodyFor, blockOf, smapTag, planeTag, smapBlock, planeBlock}
+use Rattle.block_writer.specs.Block.{bodyFor, blockOf, smapTag, planeTag, smapBlock, planeBlock}
 use Rattle.block_writer.specs.declared.Wrote.the-variants.{Block, Refused}
 use Rattle.block_writer.specs.Call.{refused, written, sizesAllowed, sourceSize, blockOutcome, smapOutcome, planeOutcome, answerOf, targetAfter}
+use Rattle.block_writer.specs.Reads.{SmapReads, PlaneReads}
 use Rattle.block_writer.proofs.CallLaws.{Sizes, sizes, length-block}
 use Rattle.block_writer.proofs.PlacedLaws.{most, Placed, placed, tag-back, size-back, table-is, block-passes}
-use Rattle.block_writer.proofs.BackLaws.{pixel-at, row-at, size-few, some-body, strip-is, rows-are}
-
--- ---- what is claimed
-
--- [b, z) of s is an SMAP block of n strips and h rows, is accepted whole, and reads as the picture `rows`, pixel (x, y) at y × 8n + x
-pub record SmapReads (n h : ℕ) (rows s : List ℕ) (b z : ℕ) : Type 0 where
-  pub tag : be32 s b ≡ smapTag
-  pub size : be32 s (b + 4) ≡ z - b
-  pub table : tableRight false n s b z ≡ true
-  pub test : blockTest false n h s b z ≡ Passed
-  pub strip : (k : ℕ) → k < n → stripAt n h s b z k ≡ picture false (pixelsOfStrip n h rows k)
-  pub pixel : (x y : ℕ) → x < 8 * n → y < h → pixelAt n h s b z x y ≡ getD rows (y * (8 * n) + x) 0
-
--- [b, z) of s is a block ZP0k of n strips and h rows, is accepted whole, and reads as the plane `rows`, row y of strip t at y × n + t
-pub record PlaneReads (k n h : ℕ) (rows s : List ℕ) (b z : ℕ) : Type 0 where
-  pub tag : be32 s b ≡ planeTag k
-  pub size : be32 s (b + 4) ≡ z - b
-  pub table : tableRight true n s b z ≡ true
-  pub test : blockTest true n h s b z ≡ Passed
-  pub strip : (t : ℕ) → t < n → rowsAt n h s b z t ≡ pixels (rowsOfStrip n h rows t)
-  pub row : (t y : ℕ) → t < n → y < h → maskAt n h s b z t y ≡ getD rows (y * n + t) 0
+use Rattle.block_writer.proofs.BackLaws.{pixel-at, row-at, size-few, length-smap, some-body, strip-is, rows-are}
 
 -- ---- the block anywhere in a longer list
 
@@ -107,9 +86,10 @@ module _ (n h : ℕ) (rows : List ℕ) (few : n ≤ 128) (one : 1 ≤ h) (high :
 
 -- ---- the target after an accepted call
 
--- an accepted call had allowed sizes, and wrote its block over the front of its target d, which is e after
+-- an accepted call had allowed sizes and enough rows, and wrote its block over the front of its target d, which is e after
 pub record Accepted (tag : ℕ) (mask : Bool) (w h : ℕ) (rows d e : List ℕ) (len : ℕ) : Type 0 where
   pub allowed : Sizes w h
+  pub enough : sourceSize mask (w / 8) h ≤ length rows
   pub size : length (blockOf tag mask (w / 8) (bodyFor mask (w / 8) h rows)) ≡ len
   pub target : blockOf tag mask (w / 8) (bodyFor mask (w / 8) h rows) ++ drop len d ≡ e
 
@@ -120,17 +100,23 @@ block-accepted : (tag : ℕ) (mask : Bool) (w h : ℕ) (rows d e : List ℕ) (le
     → Block len ≡ answerOf (blockOutcome tag mask (w / 8) h rows (length d)) → e ≡ targetAfter (blockOutcome tag mask (w / 8) h rows (length d)) d
     → Accepted tag mask w h rows d e len
 unfolding blockOutcome over
-block-accepted tag mask w h rows d e len allowed = go (ltb (length rows) (sourceSize mask (w / 8) h))
+block-accepted tag mask w h rows d e len allowed = go (ltb (length rows) (sourceSize mask (w / 8) h)) refl
     (ltb (length d) (length (blockOf tag mask (w / 8) (bodyFor mask (w / 8) h rows))))
   where
-    go : (p q : Bool) → Block len ≡ answerOf (cond p (refused 4) (cond q (refused 4) (written (blockOf tag mask (w / 8) (bodyFor mask (w / 8) h rows)))))
+    go : (p : Bool) → ltb (length rows) (sourceSize mask (w / 8) h) ≡ p → (q : Bool) → Block len ≡ answerOf
+        (cond p (refused 4) (cond q (refused 4) (written (blockOf tag mask (w / 8) (bodyFor mask (w / 8) h rows)))))
         → e ≡ targetAfter (cond p (refused 4) (cond q (refused 4) (written (blockOf tag mask (w / 8) (bodyFor mask (w / 8) h rows))))) d
         → Accepted tag mask w h rows d e len
-    go true q a t = wrong len 4 a
-    go false true a t = wrong len 4 a
-    go false false a t =
+    go true s q a t = wrong len 4 a
+    go false s true a t = wrong len 4 a
+    go false s false a t =
         let same : length (blockOf tag mask (w / 8) (bodyFor mask (w / 8) h rows)) ≡ len = cc in
-        record { allowed = allowed; size = same; target = sym (t ∙ ap (λ (k : ℕ). blockOf tag mask (w / 8) (bodyFor mask (w / 8) h rows) ++ drop k d) same) }
+        record {
+          allowed = allowed;
+          enough = ltb-false (length rows) (sourceSize mask (w / 8) h) s;
+          size = same;
+          target = sym (t ∙ ap (λ (k : ℕ). blockOf tag mask (w / 8) (bodyFor mask (w / 8) h rows) ++ drop k d) same);
+        }
 
 -- a call that gives 3 where its test fails
 tested : (test : Bool) (tag : ℕ) (mask : Bool) (w h : ℕ) (rows d e : List ℕ) (len : ℕ)
@@ -149,6 +135,16 @@ module _ (tag : ℕ) (mask : Bool) (w h : ℕ) (rows d e : List ℕ) (len : ℕ)
   at-target P read =
       subst (λ (q : List ℕ). P q len) (a .target) (subst (λ (z : ℕ). P (block ++ drop len d) z) (zero-add (length block) ∙ a .size) read)
 
+  -- the front of e is the block; what holds of the block inside a longer list holds of that front
+  pub front : take len e ≡ block
+  front = ap (take len) (sym (a .target)) ∙ take-at block (drop len d) len (a .size)
+
+  at-front : (P : List ℕ → ℕ → Type 0) (before after : List ℕ) → P (before ++ (block ++ after)) (length before + length block)
+      → P (before ++ (take len e ++ after)) (length before + len)
+  at-front P before after read =
+      subst (λ (q : List ℕ). P (before ++ (q ++ after)) (length before + len)) (sym front)
+      (subst (λ (z : ℕ). P (before ++ (block ++ after)) (length before + z)) (a .size) read)
+
   -- a block's length fits its offsets
   short : len < most mask
   short =
@@ -163,7 +159,7 @@ module _ (tag : ℕ) (mask : Bool) (w h : ℕ) (rows d e : List ℕ) (len : ℕ)
 
 module _ (w h : ℕ) (rows d e : List ℕ) (len : ℕ) where
   module _ (answer : Block len ≡ answerOf (smapOutcome w h rows (length d))) (target : e ≡ targetAfter (smapOutcome w h rows (length d)) d) where
-    smap-accepted : Accepted smapTag false w h rows d e len
+    pub smap-accepted : Accepted smapTag false w h rows d e len
     unfolding smapOutcome
     smap-accepted =
         let q = tested (sizesAllowed w h) smapTag false w h rows d e len answer target in
@@ -176,6 +172,14 @@ module _ (w h : ℕ) (rows d e : List ℕ) (len : ℕ) where
         at-target smapTag false w h rows d e len smap-accepted (λ q z. SmapReads (w / 8) h rows q 0 z)
         (smap-reads-in (w / 8) h rows (omega (arith, k .narrow)) (k .one) (k .high) bytes [] (drop len d))
 
+    -- the same block taken out of the target, anywhere in a longer list
+    pub smap-call-reads-in : Bytes rows → (before after : List ℕ)
+        → SmapReads (w / 8) h rows (before ++ (take len e ++ after)) (length before) (length before + len)
+    smap-call-reads-in bytes before after =
+        let k = smap-accepted .allowed in
+        at-front smapTag false w h rows d e len smap-accepted (λ q z. SmapReads (w / 8) h rows q (length before) z) before after
+        (smap-reads-in (w / 8) h rows (omega (arith, k .narrow)) (k .one) (k .high) bytes before after)
+
     -- in pixels: each one reads as it was given
     pub smap-call-pixel : Bytes rows → (x y : ℕ) → x < w → y < h → pixelAt (w / 8) h e 0 len x y ≡ getD rows (y * w + x) 0
     smap-call-pixel bytes x y hx hy =
@@ -186,8 +190,14 @@ module _ (w h : ℕ) (rows d e : List ℕ) (len : ℕ) where
     pub smap-short : len < 2 ^ 32
     smap-short = short smapTag false w h rows d e len smap-accepted
 
+    -- at most 520 + 128 × 2,048 bytes
+    pub smap-few : len ≤ 262664
+    smap-few =
+        let k = smap-accepted .allowed in
+        omega (arith, smap-accepted .size, length-smap (w / 8) h rows (k .one) (k .high) (omega (arith, k .narrow)))
+
   module _ (k : ℕ) (answer : Block len ≡ answerOf (planeOutcome k w h rows (length d))) (target : e ≡ targetAfter (planeOutcome k w h rows (length d)) d) where
-    plane-accepted : Accepted (planeTag k) true w h rows d e len × (k ≤ 4)
+    pub plane-accepted : Accepted (planeTag k) true w h rows d e len × (k ≤ 4)
     unfolding planeOutcome
     plane-accepted =
         let q = tested (sizesAllowed w h && (leb 1 k && leb k 4)) (planeTag k) true w h rows d e len answer target in
@@ -200,6 +210,13 @@ module _ (w h : ℕ) (rows d e : List ℕ) (len : ℕ) where
         let r = plane-accepted .0 .allowed in
         at-target (planeTag k) true w h rows d e len (plane-accepted .0) (λ q z. PlaneReads k (w / 8) h rows q 0 z)
         (plane-reads-in (w / 8) h rows (omega (arith, r .narrow)) (r .one) (r .high) k (plane-accepted .1) [] (drop len d))
+
+    pub plane-call-reads-in : (before after : List ℕ)
+        → PlaneReads k (w / 8) h rows (before ++ (take len e ++ after)) (length before) (length before + len)
+    plane-call-reads-in before after =
+        let r = plane-accepted .0 .allowed in
+        at-front (planeTag k) true w h rows d e len (plane-accepted .0) (λ q z. PlaneReads k (w / 8) h rows q (length before) z) before after
+        (plane-reads-in (w / 8) h rows (omega (arith, r .narrow)) (r .one) (r .high) k (plane-accepted .1) before after)
 
     pub plane-short : len < 2 ^ 16
     plane-short = short (planeTag k) true w h rows d e len (plane-accepted .0)

@@ -6,7 +6,7 @@ use mathlib.Core.List.{List}
 use Prim.Native.Nat.{ℕ, _*_, _/_, _%_, _≤_}
 use lib.ListN.{length}
 use lib.Dec.{eqb, leb, ltb}
-use Rattle.strip.specs.Picture.{over}
+use Rattle.number.specs.Buffer.{over}
 use Rattle.block_writer.specs.Block.{bodyFor, blockOf, smapTag, planeTag}
 use Rattle.block_writer.specs.declared.Wrote.{Wrote}
 use Rattle.block_writer.specs.declared.Wrote.the-variants.{Block, Refused}
@@ -26,10 +26,15 @@ abbrev pub targetAfter : Outcome → List ℕ → List ℕ
 targetAfter (refused k) d = d
 targetAfter (written b) d = over b d
 
--- document 01's number for an answer
+-- document 01's number for each case of an answer
 abbrev pub number : Wrote → ℕ
 number (Block size) = 0
 number (Refused k) = k
+
+-- and its value: the block's length
+abbrev pub value : Wrote → ℕ
+value (Block size) = size
+value (Refused k) = 0
 
 -- width a multiple of 8, 8 to 1,024; height 1 to 200
 unfoldable pub sizesAllowed : (w h : ℕ) → Bool
@@ -55,6 +60,8 @@ smapOutcome w h rows room = cond (sizesAllowed w h) (blockOutcome smapTag false 
 -- ZP0k, k 1 to 4 (else 3), from one plane's rows
 unfoldable pub planeOutcome : (k w h : ℕ) → List ℕ → (room : ℕ) → Outcome
 planeOutcome k w h rows room = cond (sizesAllowed w h && (leb 1 k && leb k 4)) (blockOutcome (planeTag k) true (w / 8) h rows room) (refused 3)
+
+-- ---- for the proofs: no public promise rests on what follows
 
 -- the answer r, and the target d that is e after
 abbrev pub Answered : Outcome → (d e : List ℕ) → Wrote → Type 0

@@ -5,7 +5,7 @@ ghost use mathlib.Core.List.{List, _++_};
 ghost use Prim.Native.Nat.{ℕ, _+_, _*_, _≤_, _<_};
 ghost use lib.ListN.{length, take};
 ghost use lib.Seq.{sets};
-ghost use Rattle.strip.specs.Picture.{over};
+ghost use Rattle.number.specs.Buffer.{over};
 ghost use Rattle.table.specs.Table.{offsetSize, tableEnd};
 ghost use Rattle.block_writer.specs.Block.{stripBytes, bodyFor, offsetBytes, offsetOf, tableFrom, bodiesFrom};
 ghost use Rattle.block_writer.specs.Call.{sizesAllowed, sourceSize, blockOutcome, smapOutcome, planeOutcome, Answered, Given};

@@ -1,7 +1,6 @@
 use Rattle.block_writer.proofs.StripBytesLaws.{length-strip-bytes, need-rows, need-pixels, body-rows, body-pixels}
 use Rattle.strip_writer.specs.Rows.{rowsBody}
 use Rattle.strip_writer.specs.Pixels.{stripBody}
-use Rattle.strip.specs.Picture.{over}
 use denote.Ref.{now}
 use lib.ListN.{length}
 use native.Mathlib.Nat.{one-mul, le-refl}
@@ -9,6 +8,7 @@ use Prim.Native.Nat.{ℕ, _*_, _≤_}
 use mathlib.Core.List.{List}
 use mathlib.Core.Path.{_≡_, sym, ap, _∙_, subst}
 use native.Mathlib.Omega.{arith}
+use Rattle.number.specs.Buffer.{over}
 use borrow.Author.Needs.{needs}
 use Rattle.block_writer.proofs.write_body.Statement.{statement}
 use Rattle.block_writer.proofs.write_body.Tie as tie
