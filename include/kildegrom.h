@@ -331,7 +331,8 @@ uint64_t kg_start(const uint8_t *payload, size_t payload_size, uint8_t *limbs, s
 /** One tick of all limbs. Refusals 4, 15. */
 uint32_t kg_tick(const uint8_t *payload, size_t payload_size, uint8_t *limbs, size_t limbs_size, uint32_t command);
 
-/** Whether limb 0 to 15 draws: value 0, or 256 and the picture. Refusals 4, 15. */
+/** Whether limb 0 to 15 draws: value 0, or 256 and the picture. Refusals 4, 15: there is no such limb, or any of the 16 is active with a length
+ * that isn't 1 to 128 or a place outside its window. No stream is lent here, so a window's end isn't tested. */
 uint64_t kg_limb_draws(const uint8_t *limbs, size_t limbs_size, uint32_t limb);
 
 /* ---- Writing ---- */

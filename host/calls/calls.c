@@ -246,6 +246,48 @@ static void limb_bytes(void)
     limb_becomes(1, odd, passed_over, 0, 0x71, "a tick that reads 71 moves the place alone");
 }
 
+/* Asks about 16 limbs, of which limb k is active with this window and place, and draws picture 66; the others are idle, and what else they have
+ * would be wrong in an active limb. A wrong limb refuses the question about another one too. */
+static void limb_judged(uint32_t k, uint8_t length, uint32_t start, uint32_t place, uint32_t number, const char *what)
+{
+    static const uint8_t idle[KG_LIMB_SIZE] = { 0, 0, 5, 3, 0x44, 200, 0xEE, 0xDD, 1, 2, 3, 4, 5, 6, 7, 8 };
+    struct lent limbs = lend(KG_LIMBS_SIZE, 0);
+    uint8_t *limb = limbs.at + KG_LIMB_SIZE * k;
+    size_t i;
+    for (i = 0; i < KG_LIMBS; i++) memcpy(limbs.at + KG_LIMB_SIZE * i, idle, KG_LIMB_SIZE);
+    limb[0] = 7;
+    limb[4] = 0x66;
+    limb[5] = length;
+    for (i = 0; i < 4; i++) {
+        limb[8 + i] = (uint8_t)(start >> 8 * i);
+        limb[12 + i] = (uint8_t)(place >> 8 * i);
+    }
+    expect(kg_limb_draws(limbs.at, limbs.size, k) == (number == KG_ACCEPTED ? (uint64_t)(256 + 0x66) << 32 : number), what);
+    expect(kg_limb_draws(limbs.at, limbs.size, (k + 1) % KG_LIMBS) == number, what);
+    expect(kg_limb_draws(limbs.at, limbs.size, KG_LIMBS) == KG_ANIMATION_WRONG, "limb 16");
+    expect(kg_limb_draws(limbs.at, limbs.size - 1, KG_LIMBS) == KG_BUFFER_SHORT, "4 goes before 15");
+    give_back(limbs);
+}
+
+/* What docs/LAYOUTS.md says of a limb's length and place, as the question whether a limb draws judges them: it is lent no stream, so a window may
+ * end anywhere, past 2^32 too. */
+static void limb_windows(void)
+{
+    uint32_t k;
+    for (k = 0; k < KG_LIMBS; k++) {
+        limb_judged(k, 1, 0, 0, KG_ACCEPTED, "a window of one byte");
+        limb_judged(k, 128, 5, 132, KG_ACCEPTED, "the last place of a window of 128 bytes");
+        limb_judged(k, 128, 0xFFFFFFFFu, 0xFFFFFFFFu, KG_ACCEPTED, "the last place that there is");
+        limb_judged(k, 0, 5, 5, KG_ANIMATION_WRONG, "a window of no bytes");
+        limb_judged(k, 129, 5, 5, KG_ANIMATION_WRONG, "a window of 129 bytes");
+        limb_judged(k, 255, 5, 5, KG_ANIMATION_WRONG, "a window of 255 bytes");
+        limb_judged(k, 2, 5, 4, KG_ANIMATION_WRONG, "a place below the start");
+        limb_judged(k, 2, 5, 7, KG_ANIMATION_WRONG, "a place at start + length");
+        limb_judged(k, 2, 5, 0x80000005u, KG_ANIMATION_WRONG, "a place far past the window");
+        limb_judged(k, 16, 0xFFFFFFF8u, 3, KG_ANIMATION_WRONG, "a place that is in its window modulo 2^32 alone");
+    }
+}
+
 int main(int argc, char **argv)
 {
     struct lent room = given_room("calls", argc, argv);
@@ -256,5 +298,6 @@ int main(int argc, char **argv)
     list_of_steps(room);
     costume();
     limb_bytes();
+    limb_windows();
     return passed(room);
 }

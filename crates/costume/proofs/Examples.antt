@@ -5,7 +5,7 @@ use mathlib.Core.List.{List, [], _∷_}
 use Prim.Native.Nat.{ℕ}
 use lib.ListN.{replicate}
 use Rattle.number.specs.Number.{le32Bytes}
-use Rattle.limbs.specs.Limb.{limbAt, putLimb, eachLimb, all, limbRight, limbsRight}
+use Rattle.limbs.specs.Limb.{limbAt, putLimb, eachLimb, all, placeRight, limbRight, limbsRight}
 use Rattle.limbs.proofs.Examples.{commands, lent, still, bytes, bent}
 use Rattle.costume.specs.declared.Started.{Started}
 use Rattle.costume.specs.declared.Started.the-variants.{Set, Undefined, Refused}
@@ -27,8 +27,8 @@ answer : (chore direction : ℕ) → Started
 answer chore direction = startedOf payload still 0 5 30 chore direction
 
 answers : answer 0 0 ∷ answer 0 1 ∷ answer 0 2 ∷ answer 0 3 ∷ answer 1 0 ∷ answer 1 1 ∷ [] ≡ Set ∷ Undefined ∷ Refused 15 ∷ Undefined ∷ Set ∷ Refused 15 ∷ []
-unfolding answer still lent payload commands startedOf startNumber numbersRight limbsRight all limbRight limbAt offsetRight recordRight entryOf entryPlace
-    entryAt defined
+unfolding answer still lent payload commands startedOf startNumber numbersRight limbsRight all limbRight placeRight limbAt offsetRight recordRight entryOf
+    entryPlace entryAt defined
 answers = refl
 
 -- too few limbs; a chore, a direction, a count, a table and two command offsets that are wrong; an empty stream; a window past the stream
@@ -37,37 +37,38 @@ refusals : startedOf payload (replicate 255 0) 0 5 5 244 4 ∷ startedOf payload
     ∷ startedOf payload still 0 15 30 0 0 ∷ startedOf payload still 0 5 5 0 0 ∷ startedOf payload still 0 5 36 0 1 ∷ startedOf payload still 0 5 35 0 1 ∷
     startedOf payload still 0 5 31 0 0 ∷ []
     ≡ Refused 4 ∷ Refused 15 ∷ Refused 15 ∷ Refused 15 ∷ Refused 15 ∷ Refused 15 ∷ Refused 15 ∷ Undefined ∷ Refused 15 ∷ []
-unfolding still lent payload commands startedOf startNumber numbersRight limbsRight all limbRight limbAt offsetRight recordRight entryOf entryPlace entryAt
-    defined
+unfolding still lent payload commands startedOf startNumber numbersRight limbsRight all limbRight placeRight limbAt offsetRight recordRight entryOf
+    entryPlace entryAt defined
 refusals = refl
 
 -- ---- the bytes
 
 -- the record at 10 sets limbs 0 and 2; limb 0 was stopped and stays so
 setting : startBytes payload (lent (bytes 0 1 0 0 0 0 0 0) (bytes 1 0 0 1 18 2 0 1)) 0 5 30 0 0 ≡ lent (bytes 1 1 0 0 0 3 0 0) (bytes 1 0 1 0 0 2 3 3)
-unfolding lent bytes payload commands startBytes eachLimb putLimb le32Bytes begunLimb startNumber numbersRight limbsRight all limbRight limbAt offsetRight
-    recordRight entryOf entryPlace entryAt defined
+unfolding lent bytes payload commands startBytes eachLimb putLimb le32Bytes begunLimb startNumber numbersRight limbsRight all limbRight placeRight limbAt
+    offsetRight recordRight entryOf entryPlace entryAt defined
 setting = refl
 
 -- the record at 20 idles limb 2 and leaves limb 0
 idling : startBytes payload (lent (bytes 1 0 0 1 18 3 0 1) (bytes 1 1 1 1 5 2 3 4)) 0 5 30 1 0 ≡ lent (bytes 1 0 0 1 18 3 0 1) (bytes 0 1 0 0 0 0 0 0)
-unfolding lent bytes payload commands startBytes eachLimb putLimb le32Bytes begunLimb startNumber numbersRight limbsRight all limbRight limbAt offsetRight
-    recordRight entryOf entryPlace entryAt defined
+unfolding lent bytes payload commands startBytes eachLimb putLimb le32Bytes begunLimb startNumber numbersRight limbsRight all limbRight placeRight limbAt
+    offsetRight recordRight entryOf entryPlace entryAt defined
 idling = refl
 
 -- a limb whose place is past its window is wrong for a start, also of an animation that is not defined
 wrong : startNumber payload bent 0 5 30 0 0 ∷ startNumber payload bent 0 5 30 0 1 ∷ [] ≡ 15 ∷ 15 ∷ []
-unfolding bent lent bytes payload commands startNumber numbersRight limbsRight all limbRight limbAt offsetRight recordRight entryOf entryPlace entryAt defined
+unfolding bent lent bytes payload commands startNumber numbersRight limbsRight all limbRight placeRight limbAt offsetRight recordRight entryOf entryPlace
+    entryAt defined
 wrong = refl
 
 -- a start that is refused and one of an animation that is not defined leave the bytes
 keeping : startBytes payload bent 0 5 30 0 0 ∷ startBytes payload still 0 5 30 0 1 ∷ [] ≡ bent ∷ still ∷ []
-unfolding bent still lent bytes payload commands startBytes eachLimb putLimb le32Bytes begunLimb startNumber numbersRight limbsRight all limbRight limbAt
-    offsetRight recordRight entryOf entryPlace entryAt defined
+unfolding bent still lent bytes payload commands startBytes eachLimb putLimb le32Bytes begunLimb startNumber numbersRight limbsRight all limbRight
+    placeRight limbAt offsetRight recordRight entryOf entryPlace entryAt defined
 keeping = refl
 
 -- stored offsets: 0 and FFFF stand for no record, 1 and 5 are wrong, and 6 is the record at payload byte 0
-offsets : offsetRight payload 0 5 ∷ offsetRight payload 65535 5 ∷ offsetRight payload 1 5 ∷ offsetRight payload 5 5 ∷ offsetRight payload 6 5 ∷ [] ≡ true ∷ true
-    ∷ false ∷ false ∷ true ∷ []
+offsets : offsetRight payload 0 5 ∷ offsetRight payload 0xFFFF 5 ∷ offsetRight payload 1 5 ∷ offsetRight payload 5 5 ∷ offsetRight payload 6 5 ∷ []
+    ≡ true ∷ true ∷ false ∷ false ∷ true ∷ []
 unfolding payload commands offsetRight recordRight all entryOf entryPlace entryAt
 offsets = refl

@@ -69,7 +69,7 @@ entry-shape s r i bytes =
     let window : Shape (Window (le16 s p) (last % 128 + 1) (last / 128)) = (omega arith, omega arith, omega (arith, bytes p, bytes (p + 1))) in
     shape-cond (named (maskOf s r) i) _ Unnamed
     (shape-cond (leb (p + 2) (length s)) _ Cut
-    (shape-cond (eqb (le16 s p) 65535) Idle _ tt
+    (shape-cond (eqb (le16 s p) 0xFFFF) Idle _ tt
     (shape-cond (leb (p + 3) (length s)) (Window (le16 s p) (last % 128 + 1) (last / 128)) Cut window tt))
     tt)
     tt

@@ -52,7 +52,7 @@ module _ (s : List ℕ) (t count chore direction : ℕ) where
 -- ---- a stored offset
 module _ (s : List ℕ) (o : ℕ) where
   -- an offset that stands for a record
-  pub some-record : (o ≡ 0 → ⊥) → (o ≡ 65535 → ⊥) → noRecord o ≡ false
+  pub some-record : (o ≡ 0 → ⊥) → (o ≡ 0xFFFF → ⊥) → noRecord o ≡ false
   some-record a b = rw (ne-eqb _ _ a, ne-eqb _ _ b)
 
   module _ (n : ℕ) where
@@ -60,15 +60,15 @@ module _ (s : List ℕ) (o : ℕ) where
     unfolding offsetRight
     offset-none h = rw (eq-eqb _ _ h)
 
-    pub offset-off : (o ≡ 0 → ⊥) → o ≡ 65535 → true ≡ offsetRight s o n
+    pub offset-off : (o ≡ 0 → ⊥) → o ≡ 0xFFFF → true ≡ offsetRight s o n
     unfolding offsetRight
     offset-off a h = rw (ne-eqb _ _ a, eq-eqb _ _ h)
 
-    pub offset-low : (o ≡ 0 → ⊥) → (o ≡ 65535 → ⊥) → o < 6 → false ≡ offsetRight s o n
+    pub offset-low : (o ≡ 0 → ⊥) → (o ≡ 0xFFFF → ⊥) → o < 6 → false ≡ offsetRight s o n
     unfolding offsetRight
     offset-low a b h = rw (ne-eqb _ _ a, ne-eqb _ _ b, lt-leb _ _ h)
 
-    pub offset-record : (o ≡ 0 → ⊥) → (o ≡ 65535 → ⊥) → 6 ≤ o → recordRight s (o - 6) n ≡ offsetRight s o n
+    pub offset-record : (o ≡ 0 → ⊥) → (o ≡ 0xFFFF → ⊥) → 6 ≤ o → recordRight s (o - 6) n ≡ offsetRight s o n
     unfolding offsetRight
     offset-record a b h = rw (ne-eqb _ _ a, ne-eqb _ _ b, le-leb _ _ h)
 
@@ -85,11 +85,11 @@ module _ (s : List ℕ) (o : ℕ) where
   unfolding defined
   defined-none h = rw (eq-eqb _ _ h)
 
-  pub defined-off : (o ≡ 0 → ⊥) → o ≡ 65535 → false ≡ defined s o
+  pub defined-off : (o ≡ 0 → ⊥) → o ≡ 0xFFFF → false ≡ defined s o
   unfolding defined
   defined-off a h = rw (ne-eqb _ _ a, eq-eqb _ _ h)
 
-  pub defined-mask : (o ≡ 0 → ⊥) → (o ≡ 65535 → ⊥) → (m : ℕ) → m ≡ maskOf s (o - 6) → not (eqb m 0) ≡ defined s o
+  pub defined-mask : (o ≡ 0 → ⊥) → (o ≡ 0xFFFF → ⊥) → (m : ℕ) → m ≡ maskOf s (o - 6) → not (eqb m 0) ≡ defined s o
   unfolding defined
   defined-mask a b m e = rw (ne-eqb _ _ a, ne-eqb _ _ b, ← e)
 

@@ -1,9 +1,10 @@
 -- What an accepted start leaves, as a reader of document 01 asks for it: limb by limb, the bytes beside them, and that the next tick is accepted.
 use mathlib.Core.Path.{_≡_, refl, sym, ap, _∙_}
-use mathlib.Core.Bool.{true, false}
+use mathlib.Core.Bool.{Bool, true, false, cond}
 use mathlib.Core.List.{List}
 use Prim.Native.Nat.{ℕ, _+_, _*_, _-_, _<_, _≤_}
-use borrow.Author.Tests.{le-ltb}
+use borrow.Author.Tests.{le-ltb, eqb-true}
+use lib.Dec.{eqb}
 use lib.ListN.{length, getD}
 use Rattle.limbs.specs.declared.Limb.{Limb}
 use Rattle.limbs.specs.Limb.{limbAt, eachLimb, limbRight, limbsRight}
@@ -13,8 +14,9 @@ use Rattle.limbs.proofs.AfterLaws.{Bytes, Small, limb-small, each-limb, each-un
 use Rattle.limbs.proofs.Theorems.{limbs-put}
 use Rattle.costume.specs.declared.Entry.{Entry}
 use Rattle.costume.specs.declared.Entry.the-variants.{Unnamed, Cut, Idle, Window}
+use Rattle.costume.specs.declared.Started.the-variants.{Set, Undefined, Refused}
 use Rattle.costume.specs.Record.{entryOf, begunLimb}
-use Rattle.costume.specs.Start.{offsetAt, defined, startNumber, startBytes}
+use Rattle.costume.specs.Start.{offsetAt, defined, startNumber, startedOf, startBytes, number}
 use Rattle.costume.proofs.RecordLaws.{entry-shape, begun-right, begun-small, record-entries}
 use Rattle.costume.proofs.StartLaws.{start-refused, start-undefined, start-accepted, Starts, defined-some, offset-record-right}
 
@@ -77,8 +79,19 @@ module _ (s l : List ℕ) (t count v chore direction : ℕ) (ok : startNumber s 
             ap (limbsRight (length (stream s v))) start-is ∙ limbs-put (length (stream s v)) f l (starts .whole) (λ i h. set-small i) set-right in
             rw (start-length, le-ltb (length l) 256 (starts .whole), starts .command, right)
 
--- ---- nothing changes where a start is refused or the animation is not defined
+-- ---- the answer, and that nothing changes where a start is refused or the animation is not defined
 module _ (s l : List ℕ) (t count v chore direction : ℕ) where
+  pub start-number : number (startedOf s l t count v chore direction) ≡ startNumber s l t count v chore direction
+  unfolding startedOf
+  start-number =
+      let n = startNumber s l t count v chore direction in
+      go n (eqb n 0) refl (defined s (offsetAt s t chore direction))
+    where
+      go : (n : ℕ) (z : Bool) → eqb n 0 ≡ z → (d : Bool) → number (cond z (cond d Set Undefined) (Refused n)) ≡ n
+      go n true e true = sym (eqb-true n 0 e)
+      go n true e false = sym (eqb-true n 0 e)
+      go n false e d = refl
+
   pub start-unchanged : (startNumber s l t count v chore direction ≡ 0 → ⊥) → startBytes s l t count v chore direction ≡ l
   start-unchanged h = sym (start-refused s l t count v chore direction (startNumber s l t count v chore direction) refl h .1 .1)
 

@@ -1,5 +1,5 @@
 -- Animation records (document 004, "Animation records"; document 01, "Actors, points, limbs"): a mask, u16 little-endian, in which limb i is bit 15 - i,
--- and for each limb that the mask names, limb 0 first, an entry: start, u16 little-endian, and where that is not FFFF (65535) one byte more,
+-- and for each limb that the mask names, limb 0 first, an entry: start, u16 little-endian, and where that is not FFFF one byte more,
 -- bits 0 to 6 the length less 1, bit 7 no-loop. Positions are counted in the payload.
 use mathlib.Core.Bool.{Bool, true, false, _&&_, cond}
 use mathlib.Core.List.{List}
@@ -21,7 +21,7 @@ unfoldable pub entryAt : List ℕ → ℕ → ℕ → ℕ → Entry
 entryAt s mask i p =
     cond (named mask i)
     (cond (leb (p + 2) (length s))
-    (cond (eqb (le16 s p) 65535) Idle
+    (cond (eqb (le16 s p) 0xFFFF) Idle
     (cond (leb (p + 3) (length s)) (Window (le16 s p) (getD s (p + 2) 0 % 128 + 1) (getD s (p + 2) 0 / 128)) Cut))
     Cut)
     Unnamed

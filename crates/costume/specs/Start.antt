@@ -25,7 +25,7 @@ numbersRight s t count chore direction =
 
 -- offsets that stand for no record: 0 and FFFF
 abbrev pub noRecord : ℕ → Bool
-noRecord o = eqb o 0 || eqb o 65535
+noRecord o = eqb o 0 || eqb o 0xFFFF
 
 -- a stored offset is right: it stands for no record, or is no offset from 1 to 5 and the record at payload byte o - 6 is right
 unfoldable pub offsetRight : List ℕ → ℕ → ℕ → Bool
@@ -59,8 +59,14 @@ startBytes s l t count v chore direction =
     (eachLimb (λ i. begunLimb (entryOf s (offsetAt s t chore direction - 6) i)) 16 l)
     l
 
--- document 01's number of an answer: "not defined" is accepted
-abbrev pub startedNumber : Started → ℕ
-startedNumber Set = 0
-startedNumber Undefined = 0
-startedNumber (Refused n) = n
+-- document 01's number for each case of an answer: "not defined" is accepted
+abbrev pub number : Started → ℕ
+number Set = 0
+number Undefined = 0
+number (Refused n) = n
+
+-- and its value: 1 where the limbs are set, else 0
+abbrev pub value : Started → ℕ
+value Set = 1
+value Undefined = 0
+value (Refused n) = 0

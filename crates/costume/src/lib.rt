@@ -4,7 +4,7 @@ mod record;
 mod table;
 
 ghost use mathlib.Core.Path.{_≡_};
-ghost use Rattle.costume.specs.Start.{startNumber, startedOf, startBytes, startedNumber};
+ghost use Rattle.costume.specs.Start.{startNumber, startedOf, startBytes, number};
 use crate::record::begin_limbs;
 use crate::table::is_defined;
 use crate::table::offset_at;
@@ -42,7 +42,7 @@ pub fn start(
     direction: u32,
 ) -> Started
     ensures answer { λ r. ⌜ r ≡ startedOf (now (payload .entry)) (now (limbs .entry)) table count command chore direction ⌝ }
-    ensures number { λ r. ⌜ startedNumber r ≡ startNumber (now (payload .entry)) (now (limbs .entry)) table count command chore direction ⌝ }
+    ensures number { λ r. ⌜ number r ≡ startNumber (now (payload .entry)) (now (limbs .entry)) table count command chore direction ⌝ }
     ensures bytes { λ _. ⌜ now (limbs .exit) ≡ startBytes (now (payload .entry)) (now (limbs .entry)) table count command chore direction ⌝ }
 {
     let refusal = start_number(

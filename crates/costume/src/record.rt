@@ -24,7 +24,7 @@ fn entry_at(payload: &[u8], mask: usize, i: usize, p: usize) -> Entry
         return Entry::Cut;
     }
     let start = read_le16(payload, p);
-    if start == 65535 {
+    if start == 0xFFFF {
         return Entry::Idle;
     }
     if payload.len() < p + 3 {

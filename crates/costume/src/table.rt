@@ -42,7 +42,7 @@ fn offset_right(payload: &[u8], offset: usize, n: usize) -> bool
     if offset == 0 {
         return true;
     }
-    if offset == 65535 {
+    if offset == 0xFFFF {
         return true;
     }
     if offset < 6 {
@@ -91,7 +91,7 @@ pub(crate) fn is_defined(payload: &[u8], offset: usize) -> bool
     if offset == 0 {
         return false;
     }
-    if offset == 65535 {
+    if offset == 0xFFFF {
         return false;
     }
     read_le16(payload, offset - 6) != 0

@@ -1,49 +1,36 @@
--- An answer as one u64 for a C host: document 01's number in the low 32 bits, the value in the high 32. A refused call has the value 0.
-use mathlib.Core.Bool.{cond}
+-- An answer of two parts as one u64 for a C host: document 01's number in the low 32 bits, the value in the high 32. The crate that answers says which
+-- number and which value each case has.
 use Prim.Native.Nat.{ℕ, _+_, _*_}
+use Rattle.actor.specs.Hidden as hidden
 use Rattle.actor.specs.declared.Answer.{Answer}
-use Rattle.actor.specs.declared.Answer.the-variants as answer
+use Rattle.costume.specs.Start as start
 use Rattle.costume.specs.declared.Started.{Started}
-use Rattle.costume.specs.declared.Started.the-variants as started
+use Rattle.limbs.specs.Limb as limb
 use Rattle.limbs.specs.declared.Drawn.{Drawn}
-use Rattle.limbs.specs.declared.Drawn.the-variants as drawn
+use Rattle.block_writer.specs.Call as write
 use Rattle.block_writer.specs.declared.Wrote.{Wrote}
-use Rattle.block_writer.specs.declared.Wrote.the-variants as wrote
+use Rattle.point.specs.Call as point
 use Rattle.point.specs.declared.Pointed.{Pointed}
-use Rattle.point.specs.declared.Pointed.the-variants as pointed
 
--- an accepted call's value
-abbrev pub valued : ℕ → ℕ
-valued value = value * 4294967296
+abbrev pub word : (number value : ℕ) → ℕ
+word number value = number + value * 4294967296
 
--- the hidden-pixel question: value 1 where the pixel is hidden, else 0
+-- kg_hidden: value 1 where the pixel is hidden, else 0
 abbrev pub hiddenWord : Answer → ℕ
-hiddenWord (answer.Refused n) = n
-hiddenWord (answer.Hidden is) = cond is (valued 1) 0
+hiddenWord a = word (hidden.number a) (hidden.value a)
 
--- a start: value 1 where the animation is defined, else 0
+-- kg_start: value 1 where the animation is defined, else 0
 abbrev pub startedWord : Started → ℕ
-startedWord started.Set = valued 1
-startedWord started.Undefined = 0
-startedWord (started.Refused n) = n
+startedWord a = word (start.number a) (start.value a)
 
--- whether a limb draws: value 0 where it draws nothing, else 256 and the picture
+-- kg_limb_draws: value 0 where the limb draws nothing, else 256 and the picture
 abbrev pub drawnWord : Drawn → ℕ
-drawnWord (drawn.Refused n) = n
-drawnWord drawn.Nothing = 0
-drawnWord (drawn.Picture p) = valued (256 + p)
+drawnWord a = word (limb.number a) (limb.value a)
 
--- a writer: the value is the block's length
-abbrev pub lengthOf : Wrote → ℕ
-lengthOf (wrote.Block size) = size
-lengthOf (wrote.Refused n) = 0
-
+-- kg_write_smap, kg_write_plane: the value is the block's length
 abbrev pub wroteWord : Wrote → ℕ
-wroteWord (wrote.Block size) = valued size
-wroteWord (wrote.Refused n) = n
+wroteWord a = word (write.number a) (write.value a)
 
--- the point question: the value is the object's number, 0 for no object
+-- kg_object_at: the value is the object's number, 0 for no object
 abbrev pub pointedWord : Pointed → ℕ
-pointedWord (pointed.Object o) = valued o
-pointedWord pointed.Nothing = 0
-pointedWord (pointed.Refused n) = n
+pointedWord a = word (point.number a) (point.value a)

@@ -2,13 +2,13 @@
 ghost use mathlib.Core.Path.{_≡_};
 ghost use Prim.Native.Nat.{_<_};
 ghost use lib.ListN.{length};
-ghost use Rattle.block_writer.specs.Call.{smapOutcome, planeOutcome, answerOf, targetAfter};
-ghost use Rattle.kildegrom.specs.Word.{lengthOf, wroteWord};
+ghost use Rattle.block_writer.specs.Call.{smapOutcome, planeOutcome, answerOf, targetAfter, value};
+ghost use Rattle.kildegrom.specs.Word.{wroteWord};
 use block_writer::Wrote;
 
 // A writer's answer as one u64; no block is as long as 2^32 bytes.
 fn wrote_word(answer: Wrote) -> u64
-    requires { ⌜ lengthOf answer < 4294967296 ⌝ }
+    requires { ⌜ value answer < 4294967296 ⌝ }
     ensures { λ r. ⌜ r ≡ wroteWord answer ⌝ }
 {
     match answer {

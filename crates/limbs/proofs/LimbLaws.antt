@@ -1,6 +1,6 @@
 -- Laws of the limbs' bytes: what a run of stores leaves, what a limb that is put leaves, and a test of every number below a bound.
 use mathlib.Core.Path.{_≡_, refl, ap, ap₂, _∙_}
-use mathlib.Core.Bool.{Bool, true, false, _&&_, not, cond, and-false, or-true}
+use mathlib.Core.Bool.{Bool, true, false, _&&_, not, and-false, or-true}
 use mathlib.Core.List.{List}
 use mathlib.Core.Logic.{by-cases}
 use Prim.Native.Nat.{ℕ, zero, suc, _+_, _*_, _-_, _<_, _≤_}
@@ -15,9 +15,7 @@ use Rattle.number.proofs.StoreLaws.{sets-below, sets-above}
 use Rattle.number.proofs.BoolLaws.{both}
 use Rattle.number.specs.Number.{le32, le32Bytes}
 use Rattle.limbs.specs.declared.Limb.{Limb}
-use Rattle.limbs.specs.Limb.{flag, limbAt, putLimb, headBytes, eachLimb, all, limbRight, draws, drawsNumber, drawnOf, drawnNumber}
-use Rattle.limbs.specs.declared.Drawn.{Drawn}
-use Rattle.limbs.specs.declared.Drawn.the-variants.{Refused, Nothing, Picture}
+use Rattle.limbs.specs.Limb.{idle, limbAt, putLimb, headBytes, eachLimb, all, placeRight, limbRight}
 
 -- ---- a test of every number below a bound
 
@@ -40,6 +38,11 @@ all-of (suc n) t h = rw (all-of n t (λ i l. h i (omega arith))) (h n (omega ari
 pub all-more : (n : ℕ) (t : ℕ → Bool) → all n t ≡ true → t n ≡ true → all (suc n) t ≡ true
 unfolding all
 all-more n t h g = rw (h, g)
+
+pub all-same : (n : ℕ) (t u : ℕ → Bool) → ((i : ℕ) → t i ≡ u i) → all n t ≡ all n u
+unfolding all
+all-same zero t u h = refl
+all-same (suc n) t u h = ap₂ _&&_ (all-same n t u h) (h n)
 
 pub not-leb : (a b : ℕ) → not (leb a b) ≡ ltb b a
 not-leb a b = by-cases (decLt b a) (λ h. rw (lt-leb a b h, lt-ltb b a h)) (λ h. rw (le-leb a b (omega arith), le-ltb b a (omega arith)))
@@ -145,7 +148,7 @@ limb-read l i s p a b = rw (a, b)
 -- a limb as the code tests it
 module _ (n : ℕ) (x : Limb) where
   pub right-idle : x .active ≡ 0 → true ≡ limbRight n x
-  unfolding limbRight
+  unfolding limbRight placeRight
   right-idle h = rw (eq-eqb _ _ h)
 
   pub right-active : (k : ℕ) (inside passed : Bool)
@@ -153,26 +156,26 @@ module _ (n : ℕ) (x : Limb) where
       → k ≡ x .len
       → inside ≡ leb (x .start + k) n
       → passed ≡ leb (x .start + k) (x .place)
-      → (leb 1 k && leb k 128 && inside && leb (x .start) (x .place) && not passed) ≡ limbRight n x
-  unfolding limbRight
+      → (leb 1 k && leb k 128 && leb (x .start) (x .place) && not passed && inside) ≡ limbRight n x
+  unfolding limbRight placeRight
   right-active k inside passed h e a b = rw (ne-eqb _ _ h, a, b, not-leb (x .start + k) (x .place), e)
 
   -- what is known of an active limb that is right
   pub record RightIn : Type 0 where
     pub some : 1 ≤ x .len
     pub few : x .len ≤ 128
-    pub inside : x .start + x .len ≤ n
     pub from : x .start ≤ x .place
     pub to : x .place < x .start + x .len
+    pub inside : x .start + x .len ≤ n
 
   pub right-in : (x .active ≡ 0 → ⊥) → limbRight n x ≡ true → RightIn
-  unfolding limbRight
+  unfolding limbRight placeRight
   right-in h e =
       let t1 = leb 1 (x .len) in
       let t2 = leb (x .len) 128 in
-      let t3 = leb (x .start + x .len) n in
-      let t4 = leb (x .start) (x .place) in
-      let t5 = ltb (x .place) (x .start + x .len) in
+      let t3 = leb (x .start) (x .place) in
+      let t4 = ltb (x .place) (x .start + x .len) in
+      let t5 = leb (x .start + x .len) n in
       let all : (t1 && t2 && t3 && t4 && t5) ≡ true = rw (ne-eqb _ _ h) at e in
       let a = both (t1 && t2 && t3 && t4) t5 all in
       let b = both (t1 && t2 && t3) t4 (a .0) in
@@ -181,45 +184,19 @@ module _ (n : ℕ) (x : Limb) where
       record {
         some = leb-true 1 (x .len) (d .0);
         few = leb-true (x .len) 128 (d .1);
-        inside = leb-true (x .start + x .len) n (c .1);
-        from = leb-true (x .start) (x .place) (b .1);
-        to = ltb-true (x .place) (x .start + x .len) (a .1);
+        from = leb-true (x .start) (x .place) (c .1);
+        to = ltb-true (x .place) (x .start + x .len) (b .1);
+        inside = leb-true (x .start + x .len) n (a .1);
       }
 
   pub right-from : RightIn → limbRight n x ≡ true
-  unfolding limbRight
+  unfolding limbRight placeRight
   right-from h =
       rw (
         le-leb 1 (x .len) (h .some),
         le-leb (x .len) 128 (h .few),
-        le-leb (x .start + x .len) n (h .inside),
         le-leb (x .start) (x .place) (h .from),
         lt-ltb (x .place) (x .start + x .len) (h .to),
+        le-leb (x .start + x .len) n (h .inside),
+        or-true (idle x),
       )
-      (or-true (not (flag (x .active))))
-
--- ---- the question whether a limb draws
-
-draws-zero : (x : Limb) → drawnNumber (draws x) ≡ 0
-unfolding draws
-draws-zero x = go (flag (x .active) && not (flag (x .stopped)) && flag (x .shows))
-  where
-    go : (t : Bool) → drawnNumber (cond t (Picture (x .picture)) Nothing) ≡ 0
-    go true = refl
-    go false = refl
-
-module _ (l : List ℕ) (i : ℕ) where
-  pub draws-short : length l < 256 → (Refused 4 ≡ drawnOf l i) × (4 ≡ drawsNumber l i)
-  unfolding drawnOf drawsNumber
-  draws-short h = let e = lt-ltb _ _ h in (rw e, rw e)
-
-  pub draws-none : 256 ≤ length l → 15 < i → (Refused 15 ≡ drawnOf l i) × (15 ≡ drawsNumber l i)
-  unfolding drawnOf drawsNumber
-  draws-none h g = let e = le-ltb _ _ h in let f = lt-ltb _ _ g in (rw (e, f), rw (e, f))
-
-  pub draws-one : (x : Limb) (r : Drawn) → 256 ≤ length l → i ≤ 15 → x ≡ limbAt l i → r ≡ draws x → (r ≡ drawnOf l i) × (drawnNumber r ≡ drawsNumber l i)
-  unfolding drawnOf drawsNumber
-  draws-one x r h g a b =
-      let e = le-ltb _ _ h in
-      let f = le-ltb _ _ g in
-      (rw (e, f) (b ∙ ap draws a), rw (e, f) (ap drawnNumber b ∙ draws-zero x))

@@ -1,16 +1,18 @@
--- What an accepted tick leaves, as a reader of document 01 asks for it: limb by limb, the bytes beside them, and that the next tick is accepted. A payload is
--- at most 4,294,967,296 bytes long here, as any block's is: its size is a u32.
+-- What an accepted tick leaves, as a reader of document 01 asks for it: limb by limb, the bytes beside them, and that the next tick and the question
+-- whether a limb draws are accepted. A payload is at most 4,294,967,296 bytes long here, as any block's is: its size is a u32.
 use mathlib.Core.Path.{_≡_, refl, sym, ap, _∙_}
-use mathlib.Core.Bool.{true}
+use mathlib.Core.Bool.{true, _||_}
 use mathlib.Core.List.{List}
 use mathlib.Core.Logic.{by-cases}
 use Prim.Native.Nat.{ℕ, _+_, _*_, _-_, _<_, _≤_}
 use native.Mathlib.Decide.{ℕ-discrete}
 use native.Mathlib.Omega.{arith}
 use borrow.Author.Tests.{le-ltb, le-leb}
+use lib.Dec.{leb}
 use lib.ListN.{length, getD, length-drop}
+use Rattle.number.proofs.BoolLaws.{both}
 use Rattle.limbs.specs.declared.Limb.{Limb}
-use Rattle.limbs.specs.Limb.{limbAt, eachLimb, limbRight, limbsRight}
+use Rattle.limbs.specs.Limb.{idle, limbAt, eachLimb, all, placeRight, limbRight, placesRight, limbsRight, drawsNumber}
 use Rattle.limbs.specs.Tick.{stream, tickedLimb, tickNumber, tickBytes}
 use Rattle.limbs.proofs.LimbLaws.{all-at, all-of, length-each, each-above}
 use Rattle.limbs.proofs.AfterLaws.{Bytes, Small, limb-small, each-limb, each-unused, each-kept}
@@ -76,6 +78,17 @@ module _ (s l : List ℕ) (v : ℕ) (ok : tickNumber s l v ≡ 0) where
           ∙ limbs-put (length s - (v - 6)) (λ k. tickedLimb (stream s v)) l (ticks .whole) ticked-small
           (λ i h. ticked-right (length s - (v - 6)) (stream s v) (limbAt l i) (lent-right i h)) in
           rw (tick-length, le-ltb (length l) 256 (ticks .whole), le-leb 6 v (ticks .low), le-leb (v - 6) (length s) (ticks .high), length-drop (v - 6) s, right)
+
+-- ---- where a tick is accepted, so is the question whether a limb draws
+pub tick-then-draws : (s l : List ℕ) (v i : ℕ) → tickNumber s l v ≡ 0 → i ≤ 15 → drawsNumber l i ≡ 0
+unfolding drawsNumber limbsRight placesRight limbRight
+tick-then-draws s l v i ok h =
+    let n = length s - (v - 6) in
+    let right : all 16 (λ k. limbRight n (limbAt l k)) ≡ true = ticks s l v ok .right in
+    let places : all 16 (λ k. placeRight (limbAt l k)) ≡ true =
+    all-of 16 (λ k. placeRight (limbAt l k)) (λ k g. let x = limbAt l k in
+    both (placeRight x) (idle x || leb (x .start + x .len) n) (all-at 16 (λ j. limbRight n (limbAt l j)) right k g) .0) in
+    rw (le-ltb (length l) 256 (ticks s l v ok .whole), le-leb i 15 h, places)
 
 -- ---- nothing changes where a tick is refused
 pub tick-unchanged : (s l : List ℕ) (v : ℕ) → (tickNumber s l v ≡ 0 → ⊥) → tickBytes s l v ≡ l

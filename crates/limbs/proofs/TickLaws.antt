@@ -30,9 +30,9 @@ pub obeyed-window : (b : ℕ) (x : Limb) → SameWindow (obeyed b x) x
 unfolding obeyed
 obeyed-window b x =
     let same : SameWindow x x = record { start = refl; len = refl; place = refl } in
-    choice (eqb b 121) (withStopped 1 x) _ x (record { start = refl; len = refl; place = refl })
-    (choice (eqb b 122) (withStopped 0 x) _ x (record { start = refl; len = refl; place = refl })
-    (choice (leb 113 b && leb b 124) x (withPicture b x) x same (record { start = refl; len = refl; place = refl })))
+    choice (eqb b 0x79) (withStopped 1 x) _ x (record { start = refl; len = refl; place = refl })
+    (choice (eqb b 0x7A) (withStopped 0 x) _ x (record { start = refl; len = refl; place = refl })
+    (choice (leb 0x71 b && leb b 0x7C) x (withPicture b x) x same (record { start = refl; len = refl; place = refl })))
 
 pub tick-idle : (c : List ℕ) (x : Limb) → x .active ≡ 0 → x ≡ tickedLimb c x
 unfolding tickedLimb

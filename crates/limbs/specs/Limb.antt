@@ -49,13 +49,22 @@ unfoldable pub all : ℕ → (ℕ → Bool) → Bool
 all zero t = true
 all (suc n) t = all n t && t n
 
--- a lent limb is right for a stream of n bytes: idle, or its length is 1 to 128, its window in the stream and its place in its window
-unfoldable pub limbRight : ℕ → Limb → Bool
-limbRight n x =
-    not (flag (x .active))
-    || (leb 1 (x .len) && leb (x .len) 128 && leb (x .start + x .len) n && leb (x .start) (x .place) && ltb (x .place) (x .start + x .len))
+-- a limb is idle
+abbrev pub idle : Limb → Bool
+idle x = not (flag (x .active))
 
--- all 16 lent limbs are right
+-- a lent limb is right as far as it tells without the stream: idle, or its length is 1 to 128 and its place in its window
+unfoldable pub placeRight : Limb → Bool
+placeRight x = idle x || (leb 1 (x .len) && leb (x .len) 128 && leb (x .start) (x .place) && ltb (x .place) (x .start + x .len))
+
+-- a lent limb is right for a stream of n bytes: its window, if it is active, lies in the stream too
+unfoldable pub limbRight : ℕ → Limb → Bool
+limbRight n x = placeRight x && (idle x || leb (x .start + x .len) n)
+
+-- all 16 lent limbs are right, without the stream and with it
+unfoldable pub placesRight : List ℕ → Bool
+placesRight l = all 16 (λ i. placeRight (limbAt l i))
+
 unfoldable pub limbsRight : ℕ → List ℕ → Bool
 limbsRight n l = all 16 (λ i. limbRight n (limbAt l i))
 
@@ -63,16 +72,23 @@ limbsRight n l = all 16 (λ i. limbRight n (limbAt l i))
 unfoldable pub draws : Limb → Drawn
 draws x = cond (flag (x .active) && not (flag (x .stopped)) && flag (x .shows)) (Picture (x .picture)) Nothing
 
--- the number of the question about limb i: 4 where the 16 limbs are not lent whole, then 15 for no such limb
+-- the number of the question about limb i: 4 where the 16 limbs are not lent whole, then 15 where there is no such limb or one of the 16 is wrong.
+-- No stream is lent to the question, so the windows' ends are not tested.
 unfoldable pub drawsNumber : List ℕ → ℕ → ℕ
-drawsNumber l i = cond (ltb (length l) 256) 4 (cond (ltb 15 i) 15 0)
+drawsNumber l i = cond (ltb (length l) 256) 4 (cond (leb i 15 && placesRight l) 0 15)
 
 -- its answer
 unfoldable pub drawnOf : List ℕ → ℕ → Drawn
 drawnOf l i = cond (eqb (drawsNumber l i) 0) (draws (limbAt l i)) (Refused (drawsNumber l i))
 
--- document 01's number of an answer: 0 where it is accepted
-abbrev pub drawnNumber : Drawn → ℕ
-drawnNumber (Refused n) = n
-drawnNumber Nothing = 0
-drawnNumber (Picture p) = 0
+-- document 01's number for each case of an answer
+abbrev pub number : Drawn → ℕ
+number (Refused n) = n
+number Nothing = 0
+number (Picture p) = 0
+
+-- and its value: 256 and the picture where the limb draws, else 0
+abbrev pub value : Drawn → ℕ
+value (Refused n) = 0
+value Nothing = 0
+value (Picture p) = 256 + p

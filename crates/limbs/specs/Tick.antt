@@ -1,4 +1,4 @@
--- A tick of the 16 limbs (document 01, "Actors, points, limbs"; the command bytes are hexadecimal there: 71 is 113, 79 is 121, 7A is 122, 7C is 124).
+-- A tick of the 16 limbs (document 01, "Actors, points, limbs").
 use mathlib.Core.Bool.{Bool, _&&_, cond}
 use mathlib.Core.List.{List}
 use Prim.Native.Nat.{ℕ, _+_, _-_}
@@ -57,9 +57,9 @@ withPlace p x =
 -- what a byte does to its limb: 79 stops, 7A un-stops, others of 71 to 7C do nothing, else it is the picture
 unfoldable pub obeyed : ℕ → Limb → Limb
 obeyed b x =
-    cond (eqb b 121) (withStopped 1 x)
-    (cond (eqb b 122) (withStopped 0 x)
-    (cond (leb 113 b && leb b 124) x (withPicture b x)))
+    cond (eqb b 0x79) (withStopped 1 x)
+    (cond (eqb b 0x7A) (withStopped 0 x)
+    (cond (leb 0x71 b && leb b 0x7C) x (withPicture b x)))
 
 -- the place moves on: looping, or staying at the last byte with no-loop
 unfoldable pub movedOn : Limb → Limb

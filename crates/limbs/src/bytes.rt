@@ -80,7 +80,7 @@ fn limb_right(limb: Limb, n: usize) -> bool
     let len = wide(limb.len);
     let inside = window_right(limb.start, len, n);
     let passed = window_right(limb.start, len, limb.place);
-    (1 <= len) & (len <= 128) & inside & (limb.start <= limb.place) & !passed
+    (1 <= len) & (len <= 128) & (limb.start <= limb.place) & !passed & inside
 }
 
 // Whether all 16 lent limbs are right for a stream of n bytes.

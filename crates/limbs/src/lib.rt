@@ -4,10 +4,11 @@ pub mod bytes;
 pub mod ticking;
 
 ghost use mathlib.Core.Path.{_≡_};
-ghost use Rattle.limbs.specs.Limb.{drawnOf, drawnNumber, drawsNumber};
+ghost use Rattle.limbs.specs.Limb.{drawnOf, drawsNumber, number};
 ghost use Rattle.limbs.specs.Tick.{tickNumber, tickBytes};
 use crate::bytes::draw;
 use crate::bytes::limb_at;
+use crate::bytes::limbs_right;
 use crate::ticking::tick_limbs;
 use crate::ticking::tick_number;
 
@@ -31,6 +32,9 @@ pub enum Drawn {
     Picture(u8),
 }
 
+// A stream of this many bytes holds every window: a start is a u32, and a length at most 128. The question whether a limb draws has no stream.
+const EVERY_WINDOW: usize = 4294967423;
+
 // One tick of all limbs: 0, 4 or 15.
 pub fn tick(payload: &[u8], limbs: &mut [u8], command: u32) -> u32
     ensures number { λ r. ⌜ r ≡ tickNumber (now (payload .entry)) (now (limbs .entry)) command ⌝ }
@@ -45,15 +49,19 @@ pub fn tick(payload: &[u8], limbs: &mut [u8], command: u32) -> u32
     0
 }
 
-// The question whether a limb draws, as a host asks it: 4 for too few bytes, then 15 for a limb number above 15.
+// The question whether a limb draws, as a host asks it: 4 for too few bytes, then 15 for a limb number above 15 or a limb whose length or place
+// is wrong.
 pub fn limb_draws(limbs: &[u8], limb: u32) -> Drawn
     ensures answer { λ r. ⌜ r ≡ drawnOf (now (limbs .entry)) limb ⌝ }
-    ensures number { λ r. ⌜ drawnNumber r ≡ drawsNumber (now (limbs .entry)) limb ⌝ }
+    ensures number { λ r. ⌜ number r ≡ drawsNumber (now (limbs .entry)) limb ⌝ }
 {
     if limbs.len() < 256 {
         return Drawn::Refused(4);
     }
     if 15 < limb {
+        return Drawn::Refused(15);
+    }
+    if !limbs_right(limbs, EVERY_WINDOW) {
         return Drawn::Refused(15);
     }
     let x = limb_at(limbs, limb as usize);

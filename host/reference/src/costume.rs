@@ -1,6 +1,7 @@
 //! Costumes (document 01, "Actors, points, limbs"; source 004 for the record; docs/LAYOUTS.md for a limb's 16 bytes).
 
 use crate::{u16_at, u32_at, ANIMATION, SHORT};
+use std::ops::Range;
 
 pub const LIMBS: usize = 256;
 
@@ -19,14 +20,25 @@ fn stream(payload: &[u8], command: u32) -> Result<&[u8], u32> {
     (command as usize).checked_sub(6).and_then(|at| payload.get(at..)).ok_or(ANIMATION)
 }
 
-/// "a lent active limb whose length isn't 1 to 128, whose window passes the stream or whose place is outside its window"
-fn limb_ok(limb: &[u8], stream: &[u8]) -> bool {
-    let (length, start, place) = (limb[LENGTH] as usize, u32_at(limb, START), u32_at(limb, PLACE));
-    limb[ACTIVE] == 0 || ((1..=128).contains(&length) && start + length <= stream.len() && (start..start + length).contains(&place))
+/// A limb's window: length bytes from its start on. In 64 bits, because a start is any u32 and the sum must not wrap.
+fn window(limb: &[u8]) -> Range<u64> {
+    let start = u32_at(limb, START) as u64;
+    start..start + limb[LENGTH] as u64
 }
 
-fn limbs_ok(limbs: &[u8], stream: &[u8]) -> Result<(), u32> {
-    limbs[..LIMBS].chunks(16).all(|limb| limb_ok(limb, stream)).then_some(()).ok_or(ANIMATION)
+/// "a lent active limb whose length isn't 1 to 128 … or whose place is outside its window" is wrong, whatever the stream; an idle one never is.
+fn limb_ok(limb: &[u8]) -> bool {
+    limb[ACTIVE] == 0 || ((1..=128).contains(&limb[LENGTH]) && window(limb).contains(&(u32_at(limb, PLACE) as u64)))
+}
+
+/// The same where a stream is lent, with "whose window passes the stream".
+fn limb_ok_in(limb: &[u8], stream: &[u8]) -> bool {
+    limb_ok(limb) && (limb[ACTIVE] == 0 || window(limb).end <= stream.len() as u64)
+}
+
+/// One wrong limb of the 16 is enough, whichever a call is about.
+fn all_limbs(limbs: &[u8], ok: impl Fn(&[u8]) -> bool) -> Result<(), u32> {
+    limbs[..LIMBS].chunks(16).all(ok).then_some(()).ok_or(ANIMATION)
 }
 
 /// "Starting a limb sets its place to the start and forgets its picture; its stopped bit stays".
@@ -54,7 +66,7 @@ pub fn start(payload: &[u8], limbs: &mut [u8], table: u32, count: u32, command: 
         return Err(SHORT);
     }
     let stream = stream(payload, command)?;
-    limbs_ok(limbs, stream)?;
+    all_limbs(limbs, |limb| limb_ok_in(limb, stream))?;
     if chore > 243 || direction > 3 || 4 * chore + direction >= count {
         return Err(ANIMATION);
     }
@@ -73,7 +85,7 @@ pub fn start(payload: &[u8], limbs: &mut [u8], table: u32, count: u32, command: 
             0xFFFF => idle_limb(limb),
             start => {
                 start_limb(limb, start as usize, byte()?);
-                if !limb_ok(limb, stream) {
+                if !limb_ok_in(limb, stream) {
                     return Err(ANIMATION);
                 }
             }
@@ -90,7 +102,7 @@ pub fn tick(payload: &[u8], limbs: &mut [u8], command: u32) -> u32 {
         return SHORT;
     }
     let Ok(stream) = stream(payload, command) else { return ANIMATION };
-    if limbs_ok(limbs, stream).is_err() {
+    if all_limbs(limbs, |limb| limb_ok_in(limb, stream)).is_err() {
         return ANIMATION;
     }
     for limb in limbs[..LIMBS].chunks_mut(16).filter(|limb| limb[ACTIVE] != 0) {
@@ -111,12 +123,13 @@ pub fn tick(payload: &[u8], limbs: &mut [u8], command: u32) -> u32 {
     0
 }
 
-/// "A limb draws if active, not stopped, with a picture": the picture, if it does. A limb number above 15 is 15; the call is lent no
-/// stream, so limb states are not judged here.
+/// "A limb draws if active, not stopped, with a picture": the picture, if it does. A limb number above 15 is 15, and so is a wrong limb, be it
+/// the one asked or another. The call is lent no stream, so a window's end is not judged.
 pub fn limb_draws(limbs: &[u8], limb: u32) -> Result<Option<u8>, u32> {
     if limbs.len() < LIMBS {
         return Err(SHORT);
     }
-    let limb = limbs[..LIMBS].chunks(16).nth(limb as usize).ok_or(ANIMATION)?;
-    Ok((limb[ACTIVE] != 0 && limb[STOPPED] == 0 && limb[HAS_PICTURE] != 0).then_some(limb[PICTURE]))
+    let asked = limbs[..LIMBS].chunks(16).nth(limb as usize).ok_or(ANIMATION)?;
+    all_limbs(limbs, limb_ok)?;
+    Ok((asked[ACTIVE] != 0 && asked[STOPPED] == 0 && asked[HAS_PICTURE] != 0).then_some(asked[PICTURE]))
 }

@@ -48,6 +48,8 @@ pub fn sizes_ok(w: usize, h: usize, n: usize) -> bool {
 }
 
 #[cfg(test)]
+mod limb_rows;
+#[cfg(test)]
 mod rows;
 #[cfg(test)]
 mod session_rows;

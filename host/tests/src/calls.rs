@@ -157,11 +157,13 @@ pub fn tick(b: &mut Comparison, payload: &[u8], limbs: &[u8], command: u32) -> V
     after.pop().unwrap()
 }
 
-pub fn limb_draws(b: &mut Comparison, limbs: &[u8], limb: u32) {
+/// The question whether a limb draws: its number.
+pub fn limb_draws(b: &mut Comparison, limbs: &[u8], limb: u32) -> u32 {
     let library = |p: &[*mut u8]| unsafe { kg_limb_draws(p[0], limbs.len(), limb) };
-    b.case("limb_draws", &[limb as i64], &[("limbs", limbs)], library, |_| {
+    let (number, ..) = b.case("limb_draws", &[limb as i64], &[("limbs", limbs)], library, |_| {
         word(costume::limb_draws(limbs, limb).map(|picture| picture.map_or(0, |picture| 256 + picture as usize)))
     });
+    number
 }
 
 /// A written block, header included; nothing if refused.

@@ -2,6 +2,7 @@
 
 use crate::end_count::EndCount;
 use crate::lent::Slot;
+use crate::limbs::{self, Kind, Question};
 use crate::rng::Rng;
 use crate::shapes::{shapes, Shape};
 use std::collections::BTreeMap;
@@ -60,6 +61,8 @@ pub struct Comparison {
     counts: BTreeMap<(usize, u32), u64>,
     /// How often each deliberate body was read as it must be, by place.
     shapes: BTreeMap<Shape, [u64; 2]>,
+    /// How often each question about a deliberate limb was answered as it must be.
+    limbs: BTreeMap<(Kind, Question), u64>,
     /// The same for the deliberate ends of bodies.
     pub ends: EndCount,
     /// Whether a call's first buffer, its room, ends with its page; else it may stand anywhere. A scene begins without it.
@@ -79,6 +82,7 @@ impl Comparison {
             cases: 0,
             counts: BTreeMap::new(),
             shapes: shapes().into_iter().map(|shape| (shape, [0; 2])).collect(),
+            limbs: limbs::cases().map(|case| (case, 0)).collect(),
             ends: EndCount::default(),
             room_at_page_end: false,
             differences: BTreeMap::new(),
@@ -126,6 +130,16 @@ impl Comparison {
             return self.shapes.get_mut(&shape).expect("a shape")[place as usize] += 1;
         }
         self.differ(call, "reads a deliberate body otherwise", &format!("{}: {number}, not {}", shape.name(), shape.number()));
+    }
+
+    /// A question about a deliberate limb was asked: counted if the call's number is the limb's.
+    pub fn asked(&mut self, kind: Kind, question: Question, number: u32) {
+        let planned = limbs::number(kind, question);
+        if number == planned {
+            return *self.limbs.get_mut(&(kind, question)).expect("a planned question") += 1;
+        }
+        let text = format!("{}, {question:?}: {number}, not {planned}", kind.name());
+        self.differ("limb_draws", "answers a deliberate limb otherwise", &text);
     }
 
     /// One case. `library` gets pointers to guarded copies of the buffers, `reference` gets copies; each answers one word, and the
@@ -195,11 +209,19 @@ impl Comparison {
         self.shapes.iter().filter(|(_, counts)| counts.contains(&0)).map(|(shape, _)| shape.name()).collect()
     }
 
+    /// The table of deliberate limbs, and the questions that weren't asked.
+    fn limbs(&self) -> Vec<String> {
+        limbs::print(|kind, question| self.limbs[&(kind, question)]);
+        let missing = self.limbs.iter().filter(|(_, count)| **count == 0);
+        missing.map(|((kind, question), _)| format!("limb with {}, {question:?}", kind.name())).collect()
+    }
+
     /// The tables, and whether all is well; a full run must have reached everything.
     pub fn report(&self, full: bool) -> bool {
         let mut missing = self.numbers();
         if full {
             missing.extend(self.bodies());
+            missing.extend(self.limbs());
             missing.extend(self.ends.report());
         }
         if full && !missing.is_empty() {

@@ -1,7 +1,8 @@
-//! Scenes with costumes: arbitrary bytes, and animations that play.
+//! Scenes with costumes: arbitrary bytes, animations that play, and deliberate limbs (limbs.rs).
 
 use crate::calls::{self, Costume};
 use crate::comparison::Comparison;
+use crate::limbs;
 use crate::rng::Rng;
 
 /// A limb that is right for a stream of `stream` bytes; idle if there is none.
@@ -64,8 +65,19 @@ pub fn arbitrary(b: &mut Comparison, r: &mut Rng) {
         calls::start(b, &payload, &limbs, Costume { table, count, command }, chore, direction);
         calls::tick(b, &payload, &limbs, command);
         let which = r.below(16) as u32;
-        let which = if r.once_in(8) { r.pick(&[16, 17, 255, 256, 0x1000_0000, 0x8000_0000, 0xFFFF_FFFF]) } else { which };
+        let which = if r.once_in(8) { limbs::above(r) } else { which };
         calls::limb_draws(b, &limbs, which);
+    }
+}
+
+/// Every question about every kind of limb, as any of the 16.
+pub fn questions(b: &mut Comparison, r: &mut Rng) {
+    for (kind, question) in limbs::cases() {
+        let at = r.below(16);
+        let limbs = kind.at(r, at);
+        let (lent, which) = question.ask(r, &limbs, at);
+        let number = calls::limb_draws(b, &lent, which);
+        b.asked(kind, question, number);
     }
 }
 
@@ -133,6 +145,7 @@ pub fn playing(b: &mut Comparison, r: &mut Rng) {
             spoil(r, &mut lent, stream.len());
             calls::start(b, &payload, &lent, costume, chore, direction);
             calls::tick(b, &payload, &lent, command);
+            calls::limb_draws(b, &lent, r.below(16) as u32);
         }
         let shown = if r.once_in(12) { &payload[..r.below(payload.len() + 1)] } else { &payload[..] };
         limbs = calls::start(b, shown, &limbs, costume, chore, direction);

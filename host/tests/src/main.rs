@@ -15,6 +15,7 @@ mod end_count;
 mod end_scenes;
 mod ends;
 mod lent;
+mod limbs;
 mod maker;
 mod point_scenes;
 mod rng;
@@ -57,7 +58,10 @@ fn run(b: &mut Comparison, seed: u64) {
         22 => actor_scenes::questions(b, r),
         23 if r.once_in(4) => actor_scenes::every_offset(b, r),
         23 | 24 => actor_scenes::stamps(b, r),
-        25 | 26 => costume_scenes::arbitrary(b, r),
+        25 | 26 => {
+            costume_scenes::arbitrary(b, r);
+            costume_scenes::questions(b, r);
+        }
         27 => costume_scenes::playing(b, r),
         28 | 29 => writer_scenes::pictures(b, r),
         30 | 31 => writer_scenes::planes(b, r),

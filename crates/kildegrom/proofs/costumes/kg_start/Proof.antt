@@ -2,6 +2,7 @@
 use Rattle.kildegrom.specs.Word.{startedWord}
 use mathlib.Core.Path.{sym, ap, _∙_}
 use borrow.Author.Needs.{needs}
+use Rattle.kildegrom.proofs.WordLaws.{refused-word}
 use Rattle.kildegrom.proofs.costumes.kg_start.Statement.{statement}
 use Rattle.kildegrom.proofs.costumes.kg_start.Tie as tie
 
@@ -18,7 +19,7 @@ returns-2 c =
 returns-3 : tie.Need-returns-3
 returns-3 c =
     let start = c .before .before .before .before .before .start in
-    (ap startedWord (sym (c .before .number .given .1) ∙ start .ensures .0), start .ensures .1 .1)
+    (refused-word _ ∙ ap startedWord (sym (c .before .number .given .1) ∙ start .ensures .0), start .ensures .1 .1)
 
 pub kg-start-spec : {M : Type 1} → statement M
 kg-start-spec =
