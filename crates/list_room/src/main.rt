@@ -4,9 +4,12 @@ fn main() {
     let mut buffer = io::large_buffer();
     let n = io::read_full(0, &mut buffer);
     let mut more = [0u8; 1];
+    let mut text = listing::buffer();
     if io::read_full(0, &mut more) == 0 {
-        listing::list(&buffer[..n]);
+        let size = listing::list(&buffer[..n], &mut text);
+        io::write_all(1, &text[..size]);
     } else {
-        listing::refused(1);
+        let size = listing::refused(1, &mut text);
+        io::write_all(1, &text[..size]);
     }
 }

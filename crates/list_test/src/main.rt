@@ -14,7 +14,9 @@ fn show(path: &[u8]) {
     let mut buffer = io::large_buffer();
     let n = io::read_full(file, &mut buffer);
     libc::close(file);
-    listing::list(&buffer[..n]);
+    let mut text = listing::buffer();
+    let size = listing::list(&buffer[..n], &mut text);
+    io::write_all(1, &text[..size]);
 }
 
 // Where the line that starts at `from` ends.

@@ -1,107 +1,55 @@
-// The listing of a room on standard output: a line for the room, and one for each object in OBCD order; or `refused N` (document 01,
-// the listing example). What a program writes is tested against stored outputs, not proved.
-ghost use Prim.Native.Nat.{_+_, _≤_};
-ghost use lib.ListN.{length};
-use block::Found;
-use block::find_tag;
-use block::tags::OBCD;
-use number::ahead_of;
-use number::behind_of;
-use objects::Cdhd;
-use objects::Place;
-use objects::object::cdhd_in;
-use objects::object::read_cdhd;
-use room::Room;
+// The listing of a room as text in a lent buffer: a line for the room, and one for each object in OBCD order; or `refused N` (document 01,
+// "Worked rows", the whole listing of a room).
+pub mod line;
+pub mod put;
+
+ghost use mathlib.Core.Path.{_≡_};
+ghost use Prim.Native.Nat.{_≤_};
+ghost use lib.ListN.{length, take};
+ghost use Rattle.listing.specs.Listing.{listingOf, refusedLine, writtenCount, writtenOver};
+use crate::line::object_lines;
+use crate::line::refused_line;
+use crate::line::room_line;
 use room::Tested;
 use room::test::nothing_lent;
 use room::test::test_room;
 
-fn text(bytes: &[u8]) {
-    io::write_all(1, bytes);
-}
+// The size that a buffer for a listing needs: every listing fits.
+pub const SIZE: usize = 8192;
 
-fn number(before: &[u8], n: usize) {
-    text(before);
-    io::print_decimal(1, n as u64);
-}
-
-fn signed(before: &[u8], n: i32) {
-    text(before);
-    if n < 0 {
-        number(b"-", behind_of(n));
-    } else {
-        number(b"", ahead_of(n));
-    }
-}
-
-fn room_line(r: Room) {
-    number(b"room ", r.width);
-    number(b" ", r.height);
-    number(b" planes ", r.planes);
-    number(b" objects ", r.objects);
-    text(b"\n");
-}
-
-// The box is CDHD's, in pixels.
-fn object_line(k: usize, h: Cdhd)
-    requires { ⌜ (h .x ≤ 255) × (h .y ≤ 255) × (h .width ≤ 255) × (h .height ≤ 255) ⌝ }
+// A buffer of that size.
+pub fn buffer() -> [u8; 8192]
+    ensures { λ r. ⌜ 8192 ≡ length r ⌝ }
 {
-    number(b"object ", k);
-    number(b" id ", h.id);
-    number(b" box ", h.x * 8);
-    number(b" ", h.y * 8);
-    number(b" ", h.width * 8);
-    number(b" ", h.height * 8);
-    signed(b" walk ", h.walkx);
-    signed(b" ", h.walky);
-    text(b"\n");
+    [0; 8192]
 }
 
-// The object in the OBCD [b, z), with its number.
-fn object(room: &[u8], k: usize, b: usize, z: usize)
-    requires { ⌜ (b + 8 ≤ z) × (z ≤ length (now room)) ⌝ }
+// The whole listing of a room, at the front of `out`: how many bytes it has. A buffer shorter than SIZE gets none, and the answer is 0.
+pub fn list(room: &[u8], out: &mut [u8]) -> usize
+    ensures { λ n. ⌜ (n ≤ length (now (out .exit))) × (n ≡ length (take n (now (out .exit)))) ⌝ }
+    ensures { λ n. ⌜ n ≡ writtenCount (listingOf (now (room .entry))) (now (out .entry)) ⌝ }
+    ensures { λ _. ⌜ now (out .exit) ≡ writtenOver (listingOf (now (room .entry))) (now (out .entry)) ⌝ }
 {
-    match cdhd_in(room, b, z) {
-        Place::At(p) => {
-            let h = read_cdhd(room, p);
-            object_line(k, h);
-        }
-        Place::Refused(_) => {}
+    if out.len() < SIZE {
+        return 0;
     }
-}
-
-// Every object, in OBCD order, in one walk over the room's blocks.
-fn objects(room: &[u8]) {
-    let end = room.len();
-    let mut at: usize = 8;
-    let mut k: usize = 1;
-    loop {
-        match find_tag(room, at, end, OBCD) {
-            Found::At(b, z) => {
-                object(room, k, b, z);
-                at = z;
-                k += 1;
-            }
-            Found::Missing => {
-                return;
-            }
-        }
-    }
-}
-
-// The line of a refusal.
-pub fn refused(n: u8) {
-    number(b"refused ", n as usize);
-    text(b"\n");
-}
-
-// The whole listing of a room.
-pub fn list(room: &[u8]) {
     match test_room(room, nothing_lent()) {
         Tested::Right(r) => {
-            room_line(r);
-            objects(room);
+            let at = room_line(out, 0, r);
+            object_lines(room, r.objects, out, at)
         }
-        Tested::Refused(n) => refused(n),
+        Tested::Refused(number) => refused_line(out, 0, number),
     }
+}
+
+// The line of the refusal `number`, with the same answer.
+pub fn refused(number: u8, out: &mut [u8]) -> usize
+    ensures { λ n. ⌜ (n ≤ length (now (out .exit))) × (n ≡ length (take n (now (out .exit)))) ⌝ }
+    ensures { λ n. ⌜ n ≡ writtenCount (refusedLine number) (now (out .entry)) ⌝ }
+    ensures { λ _. ⌜ now (out .exit) ≡ writtenOver (refusedLine number) (now (out .entry)) ⌝ }
+{
+    if out.len() < SIZE {
+        return 0;
+    }
+    refused_line(out, 0, number)
 }
