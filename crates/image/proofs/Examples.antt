@@ -65,11 +65,14 @@ states : (stateBlock room 1 1 ≡ At 101 136) × (stateBlock room 1 2 ≡ Missin
 unfolding drawable stateBlock imageCount objectId imageBlock objectBlock firstOf hasId tagged run walk blockEnd payload
 states = (refl, refl, refl, refl, refl, refl, refl, refl)
 
--- pixels: code 30 is transparent and each value is 255; masks: ZP01's row, and 0 for plane 2, which has no chunk
-pixels : (imageColour room 1 1 0 0 3 ≡ 255) × (imageClear room 1 1 0 0 3 ≡ true) × (imageBits room 1 1 1 0 0 ≡ 0xF0) × (imageBits room 1 1 2 0 0 ≡ 0)
-unfolding imageColour imageClear imageBits imageStrip stripAt bodyOf bodyEnd offsetAt stripOf codedOf placed kindOf fiveFrom decode lowBits bitsOf maskAt rowsAt
+-- pixels: code 30 is a transparent one, and each value is 255, which is transparent where it is the room's index; masks: ZP01's row, and 0
+-- for plane 2, which has no chunk
+pixels : (imageColour 4 room 1 1 0 0 3 ≡ 255) × (imageClear 4 255 room 1 1 0 0 3 ≡ true) × (imageClear 4 254 room 1 1 0 0 3 ≡ false)
+    × (imageBits 4 room 1 1 1 0 0 ≡ 0xF0) × (imageBits 4 room 1 1 2 0 0 ≡ 0)
+unfolding imageColour imageClear imageBits imageStrip imageFault imageTest imTest planeTest blockTest tableRight offsetsRight offsetRight leftmost stripTest
+    stripAt bodyOf bodyEnd offsetAt stripOf codedOf placed kindOf fiveFrom decode lowBits bitsOf maskAt rowsAt
     rowsOf stateBlock imageWidth imageHeight objectId imageBlock objectBlock firstOf hasId tagged run walk blockEnd payload
-pixels = (refl, refl, refl, refl)
+pixels = (refl, refl, refl, refl, refl)
 
 -- the image passes with any count of planes; one without SMAP is 2: here the payload of the OBIM of id 9
 faults : (imageFault 0 room 1 1 ≡ Passed) × (imageFault 4 room 1 1 ≡ Passed) × (imageTest 1 1 1 room 16 40 ≡ Refused 2)

@@ -1,5 +1,6 @@
 -- The pixels and masks of an object's image (document 01, "Sessions", "Painting afresh"): strip j, row r, column c of the image of
--- object o in state st, and plane k of the room.
+-- object o in state st, and plane k of the room, which has `planes`. An image is read where it passes its test; one that is refused has no
+-- pixels and no bits.
 use Prim.Native.Nat.{ℕ, _+_, _*_, _/_}
 use mathlib.Core.List.{List}
 use mathlib.Core.Bool.{Bool, false, _&&_}
@@ -11,9 +12,11 @@ use Rattle.block.specs.declared.Found.{Found}
 use Rattle.block.specs.declared.Found.the-variants.{At, Missing}
 use Rattle.strip.specs.Picture.{Picture, refusal, picture}
 use Rattle.table.specs.Body.{stripAt, pixelsOf}
-use Rattle.room.specs.Picture.{planeIn}
-use Rattle.load.specs.Load.{foundMask}
+use Rattle.table.specs.declared.Test.{Test}
+use Rattle.table.specs.declared.Test.the-variants.{Passed, Refused}
+use Rattle.room.specs.Picture.{planeIn, foundMask}
 use Rattle.image.specs.Image.{imageWidth, imageHeight, stateBlock}
+use Rattle.image.specs.Fault.{imageFault}
 
 -- an image has IMHD's width / 8 strips
 abbrev pub imageStrips : List ℕ → ℕ → ℕ
@@ -33,22 +36,29 @@ abbrev pub stripOf : (n h : ℕ) → List ℕ → ℕ → Found → Picture
 stripOf n h s j (At b z) = stripAt n h s b z j
 stripOf n h s j Missing = refusal 2
 
-unfoldable pub imageStrip : List ℕ → (o st j : ℕ) → Picture
-imageStrip s o st j = stripOf (imageStrips s o) (imageHeight s o) s j (smapOf s (stateBlock s o st))
+-- what is read of an image, by its test
+abbrev pub ifRead : {A : Type 0} → Test → (read : A) (unread : ℕ → A) → A
+ifRead Passed read unread = read
+ifRead (Refused n) read unread = unread n
+
+unfoldable pub imageStrip : (planes : ℕ) → List ℕ → (o st j : ℕ) → Picture
+imageStrip planes s o st j =
+    ifRead (imageFault planes s o st) (stripOf (imageStrips s o) (imageHeight s o) s j (smapOf s (stateBlock s o st))) refusal
 
 -- a pixel's value
-unfoldable pub imageColour : List ℕ → (o st j r c : ℕ) → ℕ
-imageColour s o st j r c = getD (pixelsOf (imageStrip s o st j)) (8 * r + c) 0
+unfoldable pub imageColour : (planes : ℕ) → List ℕ → (o st j r c : ℕ) → ℕ
+imageColour planes s o st j r c = getD (pixelsOf (imageStrip planes s o st j)) (8 * r + c) 0
 
 -- the strip's code is a transparent one
 abbrev pub clearCode : Picture → Bool
 clearCode (refusal number) = false
-clearCode (picture clear values) = clear
+clearCode (picture clear pixels) = clear
 
--- a pixel is transparent if its code is a transparent one and its value is 255
-unfoldable pub imageClear : List ℕ → (o st j r c : ℕ) → Bool
-imageClear s o st j r c = clearCode (imageStrip s o st j) && eqb (imageColour s o st j r c) 255
+-- a pixel is transparent if its code is a transparent one and its value is the transparent index
+unfoldable pub imageClear : (planes index : ℕ) → List ℕ → (o st j r c : ℕ) → Bool
+imageClear planes index s o st j r c = clearCode (imageStrip planes s o st j) && eqb (imageColour planes s o st j r c) index
 
 -- the mask byte of plane k: 0 where there is no chunk or its offset is 0
-unfoldable pub imageBits : List ℕ → (o st k j r : ℕ) → ℕ
-imageBits s o st k j r = foundMask (imageStrips s o) (imageHeight s o) s (planeOf s k (stateBlock s o st)) j r
+unfoldable pub imageBits : (planes : ℕ) → List ℕ → (o st k j r : ℕ) → ℕ
+imageBits planes s o st k j r =
+    ifRead (imageFault planes s o st) (foundMask (imageStrips s o) (imageHeight s o) s (planeOf s k (stateBlock s o st)) j r) (λ n. 0)

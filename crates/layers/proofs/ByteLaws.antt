@@ -10,7 +10,7 @@ use native.Mathlib.Nat.{div-add-mod', mod-lt, mul-le-mul-right}
 use native.Mathlib.Omega.{arith}
 use borrow.Author.Tests.{lt-ltb, le-ltb, eq-eqb, ne-eqb, ltb-true, eqb-true}
 use lib.Dec.{ltb, eqb}
-use Rattle.grid.specs.Grid.{pick, upd, within, boxed}
+use Rattle.grid.specs.Grid.{upd, within, boxed}
 use Rattle.grid.proofs.Upd.{upd-id}
 use Rattle.grid.proofs.Box.{within-yes, within-lo, within-hi, within-cases, boxed-in, boxed-off, boxed-out}
 use Rattle.layers.specs.Layer.{stripByte}
@@ -66,7 +66,7 @@ module _ (size : ℕ) (strip : ℕ → ℕ) (k : ℕ) where
 
 -- ---- a box in strip k of the pixels of n strips and h rows
 module _ (n h k y0 bh : ℕ) (f : ℕ → ℕ → ℕ → ℕ) (g : ℕ → ℕ → ℕ) (some : 0 < n) (low : y0 + bh ≤ h)
-    (same : (i o : ℕ) → i % (8 * n) / 8 ≡ k → g i o ≡ pick (within y0 bh (i / (8 * n))) (f (i % (8 * n) - 8 * k) (i / (8 * n) - y0) o) o) where
+    (same : (i o : ℕ) → i % (8 * n) / 8 ≡ k → g i o ≡ cond (within y0 bh (i / (8 * n))) (f (i % (8 * n) - 8 * k) (i / (8 * n) - y0) o) o) where
   abbrev w : ℕ
   w = 8 * n
 
@@ -101,7 +101,7 @@ module _ (n h k y0 bh : ℕ) (f : ℕ → ℕ → ℕ → ℕ) (g : ℕ → ℕ 
 
 -- ---- a box in strip k of plane q + 1, after those of the planes before it, in masks of n strips and h rows
 module _ (n h k q y0 bh : ℕ) (f : ℕ → ℕ → ℕ → ℕ) (g : ℕ → ℕ → ℕ) (some : 0 < n) (tall : 0 < h) (low : y0 + bh ≤ h)
-    (same : (i o : ℕ) → i / n / h ≡ q → i % n ≡ k → g i o ≡ pick (within y0 bh (i / n % h)) (f 0 (i / n % h - y0) o) o) where
+    (same : (i o : ℕ) → i / n / h ≡ q → i % n ≡ k → g i o ≡ cond (within y0 bh (i / n % h)) (f 0 (i / n % h - y0) o) o) where
   abbrev before : ℕ → ℕ → ℕ
   before = stripByte (q * h * n) (λ j. j % n) k g
 

@@ -4,7 +4,7 @@ use mathlib.Core.Bool.{Bool, true, false, not, cond, _&&_}
 use mathlib.Core.List.{List}
 use Prim.Native.Nat.{ℕ, _+_, _-_, _*_, _/_, _%_, _≤_, _<_}
 use native.Mathlib.Omega.{arith}
-use borrow.Author.Tests.{leb-true, eqb-true, ltb-true}
+use borrow.Author.Tests.{leb-true, ltb-true}
 use lib.Dec.{leb, ltb, eqb}
 use lib.ListN.{getD}
 use Rattle.number.proofs.BoolLaws.{and-left, and-right}
@@ -13,7 +13,6 @@ use Rattle.block.specs.Tree.{findTag, isAt}
 use Rattle.block.specs.declared.Found.{Found}
 use Rattle.block.specs.declared.Found.the-variants.{At, Missing}
 use Rattle.block.proofs.Laws.{nth-at}
-use Rattle.grid.specs.Grid.{pick}
 use Rattle.table.specs.Body.{stripAt, pixelsOf}
 use Rattle.table.specs.declared.Test.the-variants.{Passed}
 use Rattle.table.proofs.BlockLaws.{not-passed}
@@ -25,10 +24,10 @@ use Rattle.image.specs.Fault.{imageTest, stateTest, imageFault}
 use Rattle.image.specs.Pixel.{smapOf, imageStrip, imageColour, imageClear, imageBits, clearCode}
 use Rattle.image.proofs.ImageLaws.{state-at, object-right, state-bound}
 use Rattle.image.proofs.FaultLaws.{fault-at, image-smap-passes, image-plane-passes, image-has-smap}
-use Rattle.image.proofs.PixelLaws.{image-strip-at}
+use Rattle.image.proofs.PixelLaws.{image-strip-at, image-bits-at}
 use Rattle.image.specs.Gathered.{Gathered}
 use Rattle.scene.specs.Painting.{every, opaque, covers}
-use Rattle.scene.specs.Steps.{allowed}
+use Rattle.scene.proofs.Allowed.{allowed-means}
 use Rattle.scene.specs.declared.Entry.{Entry}
 use Rattle.layers.specs.declared.Source.{Source}
 use Rattle.layers.specs.Decoded.{decoded}
@@ -72,7 +71,7 @@ module _ (s : List ℕ) (r : Room) (e : Entry) (p : Paintable s r e) where
   st = e .state
 
   pub entry-fits : EntryFits s r e
-  unfolding drawable allowed decoded imageFault
+  unfolding drawable decoded imageFault
   entry-fits =
       let d1 = and-left (isObject s o && isAt (imageBlock s o) && stateRight st (imageCount s o)) (isAt (stateBlock s o st)) (p .can-draw) in
       let right = and-right (isObject s o && isAt (imageBlock s o)) (stateRight st (imageCount s o)) d1 in
@@ -80,20 +79,16 @@ module _ (s : List ℕ) (r : Room) (e : Entry) (p : Paintable s r e) where
       (and-left (isObject s o) (isAt (imageBlock s o)) (and-left (isObject s o && isAt (imageBlock s o)) (stateRight st (imageCount s o)) d1)) in
       let w = imageWidth s o in
       let h = imageHeight s o in
-      let a1 = and-left (eqb (e .x % 8) 0 && eqb (w % 8) 0 && ltb 0 w && ltb 0 h && leb (e .x + w) (8 * strips r)) (leb (e .y + h) (r .height)) (p .in-room) in
-      let a2 = and-left (eqb (e .x % 8) 0 && eqb (w % 8) 0 && ltb 0 w && ltb 0 h) (leb (e .x + w) (8 * strips r)) a1 in
-      let a3 = and-left (eqb (e .x % 8) 0 && eqb (w % 8) 0) (ltb 0 w) (and-left (eqb (e .x % 8) 0 && eqb (w % 8) 0 && ltb 0 w) (ltb 0 h) a2) in
+      let place = allowed-means (decoded s r) e .0 (p .in-room) in
       record {
         first = object .0;
         last = object .1;
         state = state-bound st (imageCount s o) right;
         smap = smap-of (r .planes) (w / 8) h s (stateBlock s o st) (p .no-fault);
-        column = eqb-true (e .x % 8) 0 (and-left (eqb (e .x % 8) 0) (eqb (w % 8) 0) a3);
-        whole = eqb-true (w % 8) 0 (and-right (eqb (e .x % 8) 0) (eqb (w % 8) 0) a3);
-        wide = leb-true (e .x + w) (8 * strips r)
-            (and-right (eqb (e .x % 8) 0 && eqb (w % 8) 0 && ltb 0 w && ltb 0 h) (leb (e .x + w) (8 * strips r)) a1);
-        high = leb-true (e .y + h) (r .height)
-            (and-right (eqb (e .x % 8) 0 && eqb (w % 8) 0 && ltb 0 w && ltb 0 h && leb (e .x + w) (8 * strips r)) (leb (e .y + h) (r .height)) (p .in-room));
+        column = place .aligned .0;
+        whole = place .aligned .1;
+        wide = place .inside .0;
+        high = place .inside .1;
       }
 
   -- an entry that covers strip k shows the strip k - x / 8 of its image there
@@ -158,26 +153,29 @@ module _ (s : List ℕ) (r : Room) (e : Entry) (p : Paintable s r e) where
         }
 
     -- its strips and planes
-    same-strip : (j : ℕ) → imageStrip s o st j ≡ stripIn s m j
+    same-strip : (j : ℕ) → imageStrip (r .planes) s o st j ≡ stripIn s m j
     same-strip j =
-        image-strip-at s o st (at .block) (m .«payload_end») (at .block-at) (m .smap) (m .«smap_end») smap-here j
+        image-strip-at (r .planes) s o st (at .block) (m .«payload_end») (at .block-at) (p .no-fault) (m .smap) (m .«smap_end») smap-here j
         ∙ ap₂ (λ (a b : ℕ). stripAt a b s (m .smap) (m .«smap_end») j) (sym (at .strips-are)) (sym (at .height-is))
 
-    pub same-bits : (k j y : ℕ) → imageBits s o st k j y ≡ maskIn s m k j y
-    unfolding imageBits
-    same-bits k j y = rw (← at .block-at, at .strips-are, at .height-is, at .payload-at)
+    pub same-bits : (k j y : ℕ) → imageBits (r .planes) s o st k j y ≡ maskIn s m k j y
+    same-bits k j y =
+        image-bits-at (r .planes) s o st (at .block) (m .«payload_end») (at .block-at) (p .no-fault) k j y
+        ∙ rw (at .strips-are, at .height-is, at .payload-at)
 
-    pub same-pixel : (j y c below : ℕ) → cond (not (imageClear s o st j y c)) (imageColour s o st j y c) below ≡ pictureOver (stripIn s m j) (8 * y + c) below
+    pub same-pixel : (j y c below : ℕ)
+        → cond (not (imageClear (r .planes) (r .clear) s o st j y c)) (imageColour (r .planes) s o st j y c) below
+        ≡ pictureOver (r .clear) (stripIn s m j) (8 * y + c) below
     unfolding imageClear imageColour pictureOver
-    same-pixel j y c below = rw (same-strip j) (go (clearCode (stripIn s m j) && eqb (getD (pixelsOf (stripIn s m j)) (8 * y + c) 0) 255))
+    same-pixel j y c below = rw (same-strip j) (go (clearCode (stripIn s m j) && eqb (getD (pixelsOf (stripIn s m j)) (8 * y + c) 0) (r .clear)))
       where
-        go : (b : Bool) → cond (not b) (getD (pixelsOf (stripIn s m j)) (8 * y + c) 0) below ≡ pick b below (getD (pixelsOf (stripIn s m j)) (8 * y + c) 0)
+        go : (b : Bool) → cond (not b) (getD (pixelsOf (stripIn s m j)) (8 * y + c) 0) below ≡ cond b below (getD (pixelsOf (stripIn s m j)) (8 * y + c) 0)
         go true = refl
         go false = refl
 
-    pub same-opaque : (j : ℕ) → pictureOpaque (stripIn s m j) (8 * m .height) ≡ opaque (decoded s r) o st j
+    pub same-opaque : (j : ℕ) → pictureOpaque (r .clear) (stripIn s m j) (8 * m .height) ≡ opaque (decoded s r) o st j
     unfolding noneClear opaque decoded imageClear imageColour
     same-opaque j =
-        every-rows (m .height) (λ i. not (clearCode (stripIn s m j) && eqb (getD (pixelsOf (stripIn s m j)) i 0) 255))
-        (λ y c. not (imageClear s o st j y c)) (λ y c ly lc. rw (same-strip j))
-        ∙ ap (λ (q : ℕ). every q (λ y. every 8 (λ c. not (imageClear s o st j y c)))) (at .height-is)
+        every-rows (m .height) (λ i. not (clearCode (stripIn s m j) && eqb (getD (pixelsOf (stripIn s m j)) i 0) (r .clear)))
+        (λ y c. not (imageClear (r .planes) (r .clear) s o st j y c)) (λ y c ly lc. rw (same-strip j))
+        ∙ ap (λ (q : ℕ). every q (λ y. every 8 (λ c. not (imageClear (r .planes) (r .clear) s o st j y c)))) (at .height-is)

@@ -58,19 +58,20 @@ every-rows n f g same = go (every (8 * n) f) (every n (λ r. every 8 (λ c. g r 
         ∙ every-at (λ c. g (i / 8) c) 8 (every-at (λ r. every 8 (λ c. g r c)) n q (i / 8) (omega arith)) (i % 8) (omega arith))
 
 -- the loop over a strip's pixels, as code makes it
-module _ (clear : Bool) (values : List ℕ) (n : ℕ) where
+module _ (index : ℕ) (clear : Bool) (values : List ℕ) (n : ℕ) where
   abbrev pub shut : ℕ → Bool
-  shut i = not (clear && eqb (getD values i 0) 255)
+  shut i = not (clear && eqb (getD values i 0) index)
 
-  pub clear-none : noneClear clear values 0 ≡ true
+  pub clear-none : noneClear index clear values 0 ≡ true
   unfolding noneClear every
   clear-none = refl
 
-  pub clear-found : (i : ℕ) → i < n → (clear && eqb (getD values i 0) 255) ≡ true → false ≡ noneClear clear values n
+  pub clear-found : (i : ℕ) → i < n → (clear && eqb (getD values i 0) index) ≡ true → false ≡ noneClear index clear values n
   unfolding noneClear
   clear-found i lt h = every-not shut n i lt (ap not h)
 
-  pub clear-more : (i : ℕ) → noneClear clear values i ≡ true → (clear && eqb (getD values i 0) 255) ≡ false → noneClear clear values (i + 1) ≡ true
+  pub clear-more : (i : ℕ) → noneClear index clear values i ≡ true → (clear && eqb (getD values i 0) index) ≡ false
+      → noneClear index clear values (i + 1) ≡ true
   unfolding noneClear
   clear-more i so h = every-more shut i so (ap not h)
 

@@ -5,10 +5,9 @@ use mathlib.Core.List.{List, [], _∷_}
 use Prim.Native.Nat.{ℕ, _+_, _-_, _*_, _/_, _%_, _≤_, _<_}
 use native.Mathlib.Nat.{mod-lt, div-lt-iff-lt-mul}
 use native.Mathlib.Omega.{arith}
-use lib.Bits.{bitOr}
 use lib.Dec.{eqb, leb, ltb}
 use lib.ListN.{getD}
-use Rattle.grid.specs.Grid.{pick, upd, within, boxed}
+use Rattle.grid.specs.Grid.{upd, within, boxed}
 use Rattle.grid.specs.Mask.{maskOver}
 use Rattle.grid.proofs.Upd.{upd-ext, upd-id, upd-then}
 use Rattle.grid.proofs.Box.{within-yes}
@@ -66,13 +65,13 @@ module _ (s : List ℕ) (r : Room) (sound : Sound s r) (k : ℕ) (within-room : 
       → px ≡ rebuiltBytes (pixelLayout (decoded s r)) [] (λ t. eqb t k) l
   unfolding pixelLayout decoded background
   fresh-pixels l px so =
-      fresh-none (pixelLayout (decoded s r)) k l (λ i o. pick (within 0 (r .height) (i / w)) (background s r (8 * k + (i % w - 8 * k)) (i / w - 0)) o) px
+      fresh-none (pixelLayout (decoded s r)) k l (λ i o. cond (within 0 (r .height) (i / w)) (background s r (8 * k + (i % w - 8 * k)) (i / w - 0)) o) px
       same
       (so ∙ upd-ext _ _ l
       (λ i lt. pixel-box n (r .height) k 0 (r .height) (λ c y o. background s r (8 * k + c) y) _ (omega arith) (omega arith) (λ j o e. refl) i (getD l i 0)))
     where
       same : (i o : ℕ) → i < r .height * w → i % w / 8 ≡ k
-          → pick (within 0 (r .height) (i / w)) (background s r (8 * k + (i % w - 8 * k)) (i / w - 0)) o ≡ background s r (i % w) (i / w)
+          → cond (within 0 (r .height) (i / w)) (background s r (8 * k + (i % w - 8 * k)) (i / w - 0)) o ≡ background s r (i % w) (i / w)
       same i o lt e =
           let pos : 0 < w = omega arith in
           let row : i / w < r .height = div-lt-iff-lt-mul pos .1 lt in
@@ -99,27 +98,27 @@ module _ (s : List ℕ) (r : Room) (sound : Sound s r) (k : ℕ) (within-room : 
 
     pixel-cell : (i o : ℕ) → i % w / 8 ≡ k
         → overPixel (decoded s r) (i % w) (i / w) e o
-        ≡ pick (within (e .y) (m .height) (i / w)) (pictureOver (stripIn s m j) (8 * (i / w - e .y) + (i % w - 8 * k)) o) o
+        ≡ cond (within (e .y) (m .height) (i / w)) (pictureOver (r .clear) (stripIn s m j) (8 * (i / w - e .y) + (i % w - 8 * k)) o) o
     unfolding overPixel decoded reaches within
     pixel-cell i o is =
         let column : i % w % 8 ≡ i % w - 8 * k = omega arith in
         rw (is, on, ← at .height-is, column) (go (leb (e .y) (i / w) && ltb (i / w) (e .y + m .height)))
       where
         go : (b : Bool)
-            → cond (b && not (imageClear s (e .object) (e .state) j (i / w - e .y) (i % w - 8 * k)))
-            (imageColour s (e .object) (e .state) j (i / w - e .y) (i % w - 8 * k)) o
-            ≡ pick b (pictureOver (stripIn s m j) (8 * (i / w - e .y) + (i % w - 8 * k)) o) o
+            → cond (b && not (imageClear (r .planes) (r .clear) s (e .object) (e .state) j (i / w - e .y) (i % w - 8 * k)))
+            (imageColour (r .planes) s (e .object) (e .state) j (i / w - e .y) (i % w - 8 * k)) o
+            ≡ cond b (pictureOver (r .clear) (stripIn s m j) (8 * (i / w - e .y) + (i % w - 8 * k)) o) o
         go true = same-pixel s r e p m at j (i / w - e .y) (i % w - 8 * k) o
         go false = refl
 
     pub over-pixels : e .y + m .height ≤ r .height → (l px : List ℕ)
-        → px ≡ upd (boxed (r .width) (8 * k) (e .y) 8 (m .height) (λ c y o. pictureOver (stripIn s m j) (8 * y + c) o)) l
+        → px ≡ upd (boxed (r .width) (8 * k) (e .y) 8 (m .height) (λ c y o. pictureOver (r .clear) (stripIn s m j) (8 * y + c) o)) l
         → px ≡ upd (overByte (pixelLayout (decoded s r)) (e ∷ []) k) l
     unfolding pixelLayout decoded
     over-pixels low l px so =
         over-one (pixelLayout (decoded s r)) k l e (λ i o. overPixel (decoded s r) (i % w) (i / w) e o) px (λ i o lt is. refl)
         (rw width-is at so ∙ upd-ext _ _ l
-        (λ i lt. pixel-box n (r .height) k (e .y) (m .height) (λ c y o. pictureOver (stripIn s m j) (8 * y + c) o) _ (omega arith) low
+        (λ i lt. pixel-box n (r .height) k (e .y) (m .height) (λ c y o. pictureOver (r .clear) (stripIn s m j) (8 * y + c) o) _ (omega arith) low
         pixel-cell i (getD l i 0)))
 
     module _ (replace : Bool) (shut : replace ≡ opaque (decoded s r) (e .object) (e .state) j) where
@@ -128,13 +127,6 @@ module _ (s : List ℕ) (r : Room) (sound : Sound s r) (k : ℕ) (within-room : 
       unfolding overMask decoded reaches within rowsByte
       mask-cell i o is =
           rw (is, on, ← at .height-is, ← shut, same-bits s r e p m at (i / n / r .height + 1) j (i / n % r .height - e .y))
-          (go (leb (e .y) (i / n % r .height) && ltb (i / n % r .height) (e .y + m .height))
-          replace (maskIn s m (i / n / r .height + 1) j (i / n % r .height - e .y)))
-        where
-          go : (b q : Bool) (v : ℕ) → pick b (pick q v (bitOr o v)) o ≡ cond b (cond q v (bitOr o v)) o
-          go true true v = refl
-          go true false v = refl
-          go false q v = refl
 
       pub over-masks : (l px : List ℕ)
           → px ≡ upd (planesByte s m j n (r .height) (r .planes) k (e .y) replace) l

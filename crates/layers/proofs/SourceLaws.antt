@@ -62,13 +62,13 @@ module _ (s : List ℕ) (m : Source) (j : ℕ) (ok : Readable s m) (fits : j < m
       value : (i : ℕ) → i < 8 * m .height → getD e i 0 ≡ getD (pixelsOf (stripIn s m j)) i 0
       value i lt = drawn-pixels (m .height) (stripIn s m j) d e (at-size (m .strips) (m .height) s (m .smap) (m .«smap_end») j) strip-passes (read .1) i lt
 
-      pub read-over : (i o : ℕ) → i < 8 * m .height → pixelOver clear (getD e i 0) o ≡ pictureOver (stripIn s m j) i o
+      pub read-over : (index i o : ℕ) → i < 8 * m .height → pixelOver index clear (getD e i 0) o ≡ pictureOver index (stripIn s m j) i o
       unfolding pictureOver
-      read-over i o lt = ap₂ (λ (t : Bool) (v : ℕ). pixelOver t v o) code (value i lt)
+      read-over index i o lt = ap₂ (λ (t : Bool) (v : ℕ). pixelOver index t v o) code (value i lt)
 
-      pub read-none-clear : noneClear clear e (8 * m .height) ≡ pictureOpaque (stripIn s m j) (8 * m .height)
+      pub read-none-clear : (index : ℕ) → noneClear index clear e (8 * m .height) ≡ pictureOpaque index (stripIn s m j) (8 * m .height)
       unfolding noneClear
-      read-none-clear = every-ext _ _ (8 * m .height) (λ i lt. ap₂ (λ (t : Bool) (v : ℕ). not (t && eqb v 255)) code (value i lt))
+      read-none-clear index = every-ext _ _ (8 * m .height) (λ i lt. ap₂ (λ (t : Bool) (v : ℕ). not (t && eqb v index)) code (value i lt))
 
 -- rows of a plane that is there, and of one that isn't
 module _ (s : List ℕ) (m : Source) (p j : ℕ) (fits : j < m .strips) (passes : PlanePasses s m p) where

@@ -28,9 +28,9 @@ decoded s r =
       tall = image.imageHeight s;
       drawable = image.drawable s;
       fault = λ o st. number (imageFault (r .planes) s o st);
-      colour = imageColour s;
-      clear = imageClear s;
-      bits = λ o st k. imageBits s o st (k + 1);
+      colour = imageColour (r .planes) s;
+      clear = imageClear (r .planes) (r .clear) s;
+      bits = λ o st k. imageBits (r .planes) s o st (k + 1);
     }
 
 -- a shown list in numbers, four for each entry: object, state, x, y; the oldest entry stands first

@@ -1,5 +1,6 @@
 -- One strip of a lent surface, over its full height: what entries make of its bytes, one over the other (document 01, "Sessions",
 -- "Painting afresh"). Layouts as in crate scene.
+-- For the proofs: no public promise rests on what this page says.
 use Prim.Native.Nat.{ℕ}
 use mathlib.Core.Bool.{Bool, not, _&&_, cond}
 use mathlib.Core.List.{List}
@@ -16,6 +17,6 @@ stripByte size strip k f i old = cond (ltb i size && eqb (strip i) k) (f i old) 
 unfoldable pub overByte : Layout → List Entry → ℕ → ℕ → ℕ → ℕ
 overByte lay es k = stripByte (lay .size) (lay .strip) k (λ i old. layered (lay .over i) old es)
 
--- of a strip's first n pixels none is transparent: its code is not a transparent one, or no value is 255
-unfoldable pub noneClear : Bool → List ℕ → ℕ → Bool
-noneClear clear values n = every n (λ i. not (clear && eqb (getD values i 0) 255))
+-- of a strip's first n pixels none is transparent: its code is not a transparent one, or no value is the transparent index
+unfoldable pub noneClear : ℕ → Bool → List ℕ → ℕ → Bool
+noneClear index clear values n = every n (λ i. not (clear && eqb (getD values i 0) index))

@@ -1,5 +1,6 @@
 -- What holds when strips are rebuilt: the room passes its test, the table of its objects is filled, and each entry of the shown list
 -- could be drawn (document 01, "Sessions": none of its refusals 11, 12, 2 and 5 to 8 is given).
+-- For the proofs: no public promise rests on what this page says.
 use Prim.Native.Nat.{ℕ, _*_, _≤_, _<_}
 use mathlib.Core.Path.{_≡_}
 use mathlib.Core.Bool.{true}

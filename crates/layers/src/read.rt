@@ -8,14 +8,14 @@ use crate::Source;
 use block::Found;
 use room::picture::plane_in;
 
-// Whether none of the first n pixels of a strip is transparent.
-pub fn none_clear(values: &[u8], n: usize, clear: bool) -> bool
+// Whether none of the first n pixels of a strip is transparent; `clear` says whether its code is a transparent one.
+pub fn none_clear(values: &[u8], n: usize, index: u8, clear: bool) -> bool
     requires { ⌜ n ≤ length (now values) ⌝ }
-    ensures { λ r. ⌜ r ≡ noneClear clear (now (values .entry)) n ⌝ }
+    ensures { λ r. ⌜ r ≡ noneClear index clear (now (values .entry)) n ⌝ }
 {
     let mut i: usize = 0;
     while i < n {
-        if clear & (values[i] == 255) {
+        if clear & (values[i] == index) {
             return false;
         }
         i += 1;

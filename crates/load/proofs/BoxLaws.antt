@@ -2,13 +2,14 @@
 use mathlib.Core.Path.{_≡_, sym, ap, _∙_}
 use mathlib.Core.List.{List, _++_}
 use mathlib.Core.Logic.{by-cases}
+use mathlib.Core.Bool.{cond}
 use Prim.Native.Nat.{ℕ, _+_, _-_, _*_, _/_, _%_, _≤_, _<_}
 use native.Mathlib.Decide.{decLt}
 use native.Mathlib.Nat.{div-add-mod', mod-lt, mul-le-mul-right, mul-zero}
 use native.Mathlib.Omega.{arith}
 use lib.ListN.{length, getD, take, drop, replicate, length-take, getD-replicate, List·getD-append}
 use lib.Seq.{ext-getD, getD-take, getD-drop, getD-append-add}
-use Rattle.grid.specs.Grid.{pick, upd, within, boxed}
+use Rattle.grid.specs.Grid.{upd, within, boxed}
 use Rattle.grid.proofs.Upd.{length-upd, getD-upd, upd-ext}
 use Rattle.grid.proofs.Box.{within-yes, within-lo, within-hi, boxed-in, boxed-off, boxed-out, boxed-ext}
 
@@ -19,7 +20,7 @@ box-same w x0 y0 bw bh f g l px agree e = e ∙ upd-ext _ _ l (λ i lt. boxed-ex
 
 module _ (w y0 bh : ℕ) (f : ℕ → ℕ → ℕ → ℕ) (i o : ℕ) where
   abbrev Run : Type 0
-  Run = boxed w 0 y0 w bh f i o ≡ pick (within (y0 * w) (bh * w) i) (f (i % w) (i / w - y0) o) o
+  Run = boxed w 0 y0 w bh f i o ≡ cond (within (y0 * w) (bh * w) i) (f (i % w) (i / w - y0) o) o
 
   pub wide-box : Run
   wide-box = by-cases (decLt 0 w) some (λ e. none (omega arith))
@@ -72,10 +73,10 @@ module _ (from m v : ℕ) (d e : List ℕ) (same : length e ≡ length d) (room 
       ap (λ (k : ℕ). getD e k 0) (sym place) ∙ sym (getD-drop (from + m) e (i - (from + m)) 0) ∙ ap (λ (l : List ℕ). getD l (i - (from + m)) 0) back
       ∙ getD-drop (from + m) d (i - (from + m)) 0 ∙ ap (λ (k : ℕ). getD d k 0) place
 
-  pub run-upd : e ≡ upd (λ i o. pick (within from m i) v o) d
+  pub run-upd : e ≡ upd (λ i o. cond (within from m i) v o) d
   run-upd = ext-getD 0 e _ (same ∙ sym (length-upd _ d)) (λ i lt. cell i (omega arith) ∙ sym (getD-upd _ d i (omega arith)))
     where
-      cell : (i : ℕ) → i < length d → getD e i 0 ≡ pick (within from m i) v (getD d i 0)
+      cell : (i : ℕ) → i < length d → getD e i 0 ≡ cond (within from m i) v (getD d i 0)
       cell i lt =
           by-cases (decLt i from) (λ p. rw (within-lo from m i p) (before-run i p))
           (λ p. by-cases (decLt i (from + m))

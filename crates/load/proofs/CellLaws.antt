@@ -1,15 +1,16 @@
 -- What stands in the buffer after a strip of a tested block is read: the values that the definitions give its cells.
 use mathlib.Core.Path.{_≡_, sym, ap, _∙_}
-use mathlib.Core.Bool.{Bool, true, false}
+use mathlib.Core.Bool.{Bool, true, false, cond}
 use mathlib.Core.List.{List, [], _∷_}
 use Prim.Native.Nat.{ℕ, _+_, _*_, _/_, _%_, _<_}
 use native.Mathlib.Omega.{arith}
 use lib.Dec.{ltb}
 use lib.ListN.{length, getD, drop, List·getD-append}
 use lib.Seq.{getD-take}
+use Rattle.number.specs.Buffer.{over}
 use Rattle.bits.specs.Bits.{bitsOf}
-use Rattle.strip.specs.Strip.{Strip, refused, pixels, decode, Filled}
-use Rattle.strip.specs.Picture.{Picture, refusal, picture, placed, sourceOf, over, unless, shown, rawOf, codedOf, byKind, kindOf, stripOf, drawnOver, Answered}
+use Rattle.strip.specs.Strip.{Strip, refused, values, decode, Filled}
+use Rattle.strip.specs.Picture.{Picture, refusal, picture, placed, sourceOf, shown, rawOf, codedOf, byKind, kindOf, stripOf, drawnOver, Answered}
 use Rattle.strip.specs.declared.Kind.{Kind}
 use Rattle.strip.specs.declared.Kind.the-variants.{Raw, Coded, Unknown}
 use Rattle.strip.specs.declared.Answer.{Answer}
@@ -34,7 +35,7 @@ raw-size : (h : ℕ) (t : List ℕ) → Sized h (rawOf h t)
 unfolding rawOf
 raw-size h t = go (ltb (length t) (8 * h))
   where
-    go : (short : Bool) → Sized h (unless short (refusal 7) (picture false (placed false h t)))
+    go : (short : Bool) → Sized h (cond short (refusal 7) (picture false (placed false h t)))
     go true = tt
     go false = placed-size false h t
 
@@ -45,7 +46,7 @@ coded-size second vertical clear w h (c ∷ t) = go (decode second w (8 * h) 1 c
   where
     go : (x : Strip) → Sized h (shown vertical clear h x)
     go (refused n) = tt
-    go (pixels xs) = placed-size vertical h xs
+    go (values xs) = placed-size vertical h xs
 
 pub strip-size : (h : ℕ) (s : List ℕ) → Sized h (stripOf h s)
 unfolding stripOf

@@ -1,27 +1,31 @@
 -- Laws of the load: what a room that passes says of its pictures, and one plane more.
 use mathlib.Core.Path.{_≡_, refl, sym, ap, ap₂, _∙_}
 use mathlib.Core.Bool.{false}
-use mathlib.Core.List.{List, _++_}
+use mathlib.Core.List.{List}
 use Prim.Native.Nat.{ℕ, _+_, _-_, _*_, _/_, _%_, _≤_}
 use native.Mathlib.Nat.{add-mul, one-mul}
 use native.Mathlib.Omega.{arith}
 use lib.Arith.{digits-div, digits-mod}
-use lib.ListN.{length, take, drop, replicate}
+use lib.ListN.{length}
 use Rattle.grid.specs.Grid.{upd, boxed}
 use Rattle.grid.proofs.Box.{box-below}
-use Rattle.strip.proofs.PictureLaws.{over-of}
 use Rattle.table.specs.Test.{blockTest}
 use Rattle.table.specs.declared.Test.the-variants.{Passed}
 use Rattle.room.specs.Head.{Sound}
 use Rattle.room.specs.Picture.{planeTest}
-use Rattle.room.specs.Test.{strips, picturesTest, roomTest, withSurfaces}
+use Rattle.room.specs.Test.{strips, picturesTest, roomTest, withSurfaces, surfacesTest}
 use Rattle.room.specs.declared.Lent.{Lent}
 use Rattle.room.proofs.PictureLaws as picture
 use Rattle.room.specs.declared.Room.{Room}
 use Rattle.room.specs.declared.Tested.{Tested}
 use Rattle.room.specs.declared.Tested.the-variants.{Right}
 use Rattle.room.proofs.TestLaws.{test-passes, surfaces-long}
-use Rattle.load.specs.Load.{sessionSize, mask, loadedPlane, loadTest, emptied}
+use Rattle.stored.specs.Layout.{sessionSize}
+use Rattle.load.specs.Load.{mask, loadedPlane, loadTest}
+
+-- the load tests what a call on a session tests
+pub load-test : (s session pixels masks : List ℕ) → loadTest s session pixels masks ≡ surfacesTest sessionSize s session pixels masks
+load-test s session pixels masks = refl
 
 -- an accepted room, and buffers that are long enough
 pub record Accepted (s session pixels masks : List ℕ) (r : Room) : Type 0 where
@@ -72,8 +76,3 @@ planes-more s r k l px qx one p q =
     (λ c y o hc hy.
     sym (ap₂ (λ (a b : ℕ). mask s r a c b) (ap (λ (n : ℕ). n + 1) (digits-div (k - 1) hy) ∙ back) (digits-mod (k - 1) hy)))
     p q)
-
--- a session that is all zero
-pub emptied-of : (old new : List ℕ) → take (0 + 450) new ≡ take 0 old ++ replicate 450 0 → drop (0 + 450) new ≡ drop (0 + 450) old → new ≡ emptied old
-unfolding emptied
-emptied-of old new front back = over-of (replicate 450 0) new old 450 refl front back

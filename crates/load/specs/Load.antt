@@ -1,31 +1,22 @@
 -- What an accepted load leaves (document 01, "Sizes", "Blocks", "Sessions"): the background's pixels, planes 1 to N, and an empty session.
 use Prim.Native.Nat.{ℕ, _+_, _-_, _*_, _/_, _%_}
 use mathlib.Core.List.{List}
-use lib.ListN.{length, replicate}
-use Rattle.block.specs.declared.Found.{Found}
-use Rattle.block.specs.declared.Found.the-variants.{At, Missing}
+use lib.ListN.{length}
 use Rattle.grid.specs.Grid.{upd, boxed}
-use Rattle.strip.specs.Picture.{over}
-use Rattle.table.specs.Body.{pixelAt, maskAt}
-use Rattle.room.specs.Picture.{planeIn}
+use Rattle.table.specs.Body.{pixelAt}
+use Rattle.room.specs.Picture.{planeIn, foundMask}
 use Rattle.room.specs.Test.{strips, roomTest, withSurfaces}
 use Rattle.room.specs.declared.Room.{Room}
 use Rattle.room.specs.declared.Tested.{Tested}
 use Rattle.room.specs.declared.Tested.the-variants.{Right, Refused}
-
--- the fixed size of a session (docs/LAYOUTS.md)
-abbrev pub sessionSize : ℕ
-sessionSize = 450
+use Rattle.stored.specs.Layout.{sessionSize}
+use Rattle.stored.specs.Bytes.{emptied}
 
 -- the background's pixel (x, y)
 unfoldable pub background : List ℕ → Room → (x y : ℕ) → ℕ
 background s r x y = pixelAt (strips r) (r .height) s (r .smap) (r .«smap_end») x y
 
--- a plane's mask byte in strip k, row y; a missing plane is all zero
-abbrev pub foundMask : (n h : ℕ) → List ℕ → Found → (k y : ℕ) → ℕ
-foundMask n h s (At b z) k y = maskAt n h s b z k y
-foundMask n h s Missing k y = 0
-
+-- a plane's mask byte in strip k, row y
 unfoldable pub mask : List ℕ → Room → (plane k y : ℕ) → ℕ
 mask s r plane k y = foundMask (strips r) (r .height) s (planeIn s (r .image) (r .«image_end») plane) k y
 
@@ -40,10 +31,6 @@ loadedPlane s r p old = upd (boxed (strips r) 0 ((p - 1) * r .height) (strips r)
 -- plane p, strip k, row y stands at ((p − 1) × H + y) × S + k: row q of all planes together is row q mod H of plane q / H + 1
 unfoldable pub loadedMasks : List ℕ → Room → List ℕ → List ℕ
 loadedMasks s r old = upd (boxed (strips r) 0 0 (strips r) (r .planes * r .height) (λ k q o. mask s r (q / r .height + 1) k (q % r .height))) old
-
--- an empty session: no step, no entry, all zero; bytes past its size stay
-unfoldable pub emptied : List ℕ → List ℕ
-emptied old = over (replicate sessionSize 0) old
 
 -- the test that the load makes
 abbrev pub loadTest : (s session pixels masks : List ℕ) → Tested

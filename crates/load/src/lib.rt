@@ -8,7 +8,9 @@ ghost use Rattle.table.specs.declared.Test.the-variants.{Passed};
 ghost use Rattle.room.specs.Head.{Sound};
 ghost use Rattle.room.specs.Picture.{planeTest};
 ghost use Rattle.room.specs.Test.{strips, picturesTest, numberOf};
-ghost use Rattle.load.specs.Load.{loadedPixels, loadedPlane, loadedMasks, emptied, loadTest, pixelsAfter, masksAfter, sessionAfter};
+ghost use Rattle.stored.specs.Layout.{sessionSize};
+ghost use Rattle.stored.specs.Bytes.{emptied};
+ghost use Rattle.load.specs.Load.{loadedPixels, loadedPlane, loadedMasks, loadTest, pixelsAfter, masksAfter, sessionAfter};
 use crate::paint::clear_plane;
 use crate::paint::paint_background;
 use crate::paint::paint_plane;
@@ -18,13 +20,14 @@ use room::Tested;
 use room::picture::plane_in;
 use room::test::surfaces_lent;
 use room::test::test_room;
+use stored::SESSION_SIZE;
 
 // Empties the session.
 pub fn empty_session(session: &mut [u8])
-    requires { ⌜ 450 ≤ length (now session) ⌝ }
+    requires { ⌜ sessionSize ≤ length (now session) ⌝ }
     ensures { λ _. ⌜ now (session .exit) ≡ emptied (now (session .entry)) ⌝ }
 {
-    number::buffer::fill(session, 0, 450, 0);
+    number::buffer::fill(session, 0, SESSION_SIZE, 0);
 }
 
 // Paints the background of a room that passes the test.
@@ -84,7 +87,7 @@ pub fn load(room: &[u8], session: &mut [u8], pixels: &mut [u8], masks: &mut [u8]
         ≡ masksAfter (now (room .entry)) (loadTest (now (room .entry)) (now (session .entry)) (now (pixels .entry)) (now (masks .entry)))
         (now (masks .entry)) ⌝ }
 {
-    let lent = surfaces_lent(450, session.len(), pixels.len(), masks.len());
+    let lent = surfaces_lent(SESSION_SIZE, session.len(), pixels.len(), masks.len());
     match test_room(room, lent) {
         Tested::Right(r) => {
             empty_session(session);

@@ -11,7 +11,7 @@ ghost use Rattle.table.specs.Body.{pixelAt, maskAt};
 ghost use Rattle.table.specs.Test.{stripTest, blockTest};
 ghost use Rattle.table.specs.declared.Test.the-variants.{Passed};
 
-// Strip k of an SMAP block at column 8k of the pixels, over its full height.
+// Strip k of an SMAP block at column 8k of the pixels, over its full height. No pixel of a background is transparent.
 pub fn paint_strip(room: &[u8], n: usize, h: usize, b: usize, z: usize, k: usize, pixels: &mut [u8])
     requires { ⌜ (k < n) × (n ≤ 128) × (h ≤ 200) × (b ≤ z) × (z ≤ length (now room)) ⌝ }
     requires { ⌜ tableRight false n (now room) b z ≡ true ⌝ }
@@ -22,7 +22,7 @@ pub fn paint_strip(room: &[u8], n: usize, h: usize, b: usize, z: usize, k: usize
 {
     let mut scratch = [0u8; 1600];
     table::read_strip(room, n, h, b, z, k, &mut scratch);
-    grid::blit_strip(pixels, 8 * n, h, k, 0, &scratch, h, false);
+    grid::blit_strip(pixels, 8 * n, h, k, 0, &scratch, h, 0, false);
 }
 
 // Every strip of an SMAP block.

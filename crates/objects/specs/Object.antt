@@ -5,11 +5,11 @@ use mathlib.Core.Bool.{cond}
 use lib.ListN.{getD, length}
 use lib.Dec.{eqb}
 use Rattle.number.specs.Number.{le16, sle16}
+use Rattle.number.specs.Buffer.{over}
 use Rattle.block.specs.Tag.{tag-OBCD, tag-CDHD}
 use Rattle.block.specs.Tree.{nthTag, needTag}
 use Rattle.block.specs.declared.Found.{Found}
 use Rattle.block.specs.declared.Found.the-variants as found
-use Rattle.strip.specs.Picture.{over}
 use Rattle.room.specs.Test.{roomTest, fixedOnly}
 use Rattle.objects.specs.declared.Cdhd.{Cdhd}
 use Rattle.room.specs.declared.Lent.{Lent}

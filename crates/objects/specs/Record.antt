@@ -2,7 +2,7 @@
 use Prim.Native.Nat.{ℕ, _/_, _%_}
 use mathlib.Core.List.{List, [], _∷_}
 use lib.ListN.{length}
-use Rattle.strip.specs.Picture.{over}
+use Rattle.number.specs.Buffer.{over}
 use Rattle.room.specs.Test.{roomTest, fixedOnly}
 use Rattle.room.specs.declared.Room.{Room}
 use Rattle.room.specs.declared.Tested.{Tested}
@@ -25,7 +25,7 @@ recordBytes r =
     ∷ high (r .planes)
     ∷ low (r .objects)
     ∷ high (r .objects)
-    ∷ 255
+    ∷ r .clear
     ∷ 0
     ∷ 0
     ∷ 0

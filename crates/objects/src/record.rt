@@ -2,7 +2,7 @@
 ghost use mathlib.Core.Path.{_≡_};
 ghost use Prim.Native.Nat.{_≤_};
 ghost use lib.ListN.{length};
-ghost use Rattle.strip.specs.Picture.{over};
+ghost use Rattle.number.specs.Buffer.{over};
 ghost use Rattle.room.specs.Test.{numberOf};
 ghost use Rattle.objects.specs.Record.{recordBytes, recordTest, recordAfter};
 use room::Room;
@@ -45,7 +45,7 @@ fn record_bytes(r: Room) -> [u8; 16]
     let f = high(r.planes);
     let g = low(r.objects);
     let h = high(r.objects);
-    [a, b, c, d, e, f, g, h, 255, 0, 0, 0, 0, 0, 0, 0]
+    [a, b, c, d, e, f, g, h, r.clear, 0, 0, 0, 0, 0, 0, 0]
 }
 
 // The record of a room: 0, or the number of the refusal.

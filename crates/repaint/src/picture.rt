@@ -31,17 +31,27 @@ pub fn put_strip(
 ) -> bool
     requires { ⌜ Sound (now room) r × Readable (now room) m × (j < m .strips) ⌝ }
     requires { ⌜ (k < strips r) × (y + m .height ≤ r .height) × (r .width * r .height ≤ length (now pixels)) ⌝ }
-    ensures { λ opaque. ⌜ opaque ≡ pictureOpaque (stripIn (now (room .entry)) m j) (8 * m .height) ⌝ }
+    ensures { λ opaque. ⌜ opaque ≡ pictureOpaque (r .clear) (stripIn (now (room .entry)) m j) (8 * m .height) ⌝ }
     ensures { λ _. ⌜ now (pixels .exit)
-        ≡ upd (boxed (r .width) (8 * k) y 8 (m .height) (λ c q o. pictureOver (stripIn (now (room .entry)) m j) (8 * q + c) o))
+        ≡ upd (boxed (r .width) (8 * k) y 8 (m .height) (λ c q o. pictureOver (r .clear) (stripIn (now (room .entry)) m j) (8 * q + c) o))
         (now (pixels .entry)) ⌝ }
 {
     let mut scratch = [0u8; 1600];
     let height = m.height;
     match table::read_strip(room, m.strips, height, m.smap, m.smap_end, j, &mut scratch) {
         Answer::Drawn { clear } => {
-            grid::blit_strip(pixels, r.width, r.height, k, y, &scratch, height, clear);
-            none_clear(&scratch, 8 * height, clear)
+            grid::blit_strip(
+                pixels,
+                r.width,
+                r.height,
+                k,
+                y,
+                &scratch,
+                height,
+                r.clear,
+                clear,
+            );
+            none_clear(&scratch, 8 * height, r.clear, clear)
         }
         Answer::Refused(_) => true,
     }

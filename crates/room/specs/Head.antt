@@ -59,7 +59,7 @@ objectsRight s = eachHas tag-OBCD tag-CDHD 13 s 8 (length s) && eachHas tag-OBIM
 unfoldable pub sizesRight : (w h n objects : ℕ) → Bool
 sizesRight w h n objects = eqb (w % 8) 0 && leb 8 w && leb w 1024 && leb 1 h && leb h 200 && leb n 4 && leb objects 128
 
--- what RMHD and RMIH say, with the OBCD blocks counted
+-- what RMHD and RMIH say, with the OBCD blocks counted; the transparent index of every room is 255
 unfoldable pub roomOf : List ℕ → Parts → Room
 roomOf s p =
     record {
@@ -67,6 +67,7 @@ roomOf s p =
       height = le16 s (p .header + 2);
       planes = le16 s (p .«image_header»);
       objects = countTag tag-OBCD s 8 (length s);
+      clear = 255;
       image = p .image;
       «image_end» = p .«image_end»;
       smap = p .smap;
@@ -83,6 +84,8 @@ headIn s needed.Missing = Refused 2
 -- refusals 1, 2 and 3 of a room, in that order, or its sizes and where its picture stands
 unfoldable pub headOf : List ℕ → Tested
 headOf s = cond (wellFormed s) (headIn s (neededIn s)) (Refused 1)
+
+-- ---- for the proofs: no public promise rests on what follows
 
 -- what holds of a room that has none of the refusals 1 to 3
 pub record Sound (s : List ℕ) (r : Room) : Type 0 where

@@ -4,6 +4,7 @@ use Prim.Native.Nat.{ℕ, _*_, _/_}
 use mathlib.Core.List.{List}
 use mathlib.Core.Bool.{Bool, true, false, cond, _&&_, _||_}
 use lib.Dec.{ltb}
+use lib.ListN.{length}
 use Rattle.table.specs.declared.Test.{Test}
 use Rattle.table.specs.declared.Test.the-variants as test
 use Rattle.room.specs.Head.{headOf}
@@ -57,6 +58,10 @@ fixedOnly size n = record { «fixed_short» = ltb n size; «has_surfaces» = fal
 abbrev pub withSurfaces : (size n pixels masks : ℕ) → Lent
 withSurfaces size n pixels masks =
     record { «fixed_short» = ltb n size; «has_surfaces» = true; pixels = pixels; masks = masks; «has_flags» = false; flags = 0 }
+
+-- the test that a call on a session of a fixed size makes, which is lent with both surfaces
+abbrev pub surfacesTest : (size : ℕ) (s session pixels masks : List ℕ) → Tested
+surfacesTest size s session pixels masks = roomTest (withSurfaces size (length session) (length pixels) (length masks)) s
 
 -- a session of a fixed size, lent with n bytes, and a flag byte per object
 abbrev pub withFlags : (size n flags : ℕ) → Lent

@@ -76,7 +76,7 @@ fn objects_right(s: &[u8]) -> bool
     each_has(s, 8, s.len(), OBCD, CDHD, 13) & each_has(s, 8, s.len(), OBIM, IMHD, 16)
 }
 
-// What RMHD and RMIH say, with the OBCD blocks counted.
+// What RMHD and RMIH say, with the OBCD blocks counted. The transparent index of every room is 255.
 fn room_of(s: &[u8], p: Parts) -> Room
     requires { ⌜ (p .header + 6 ≤ length (now s)) × (p .«image_header» + 2 ≤ length (now s)) ⌝ }
     ensures { λ r. ⌜ r ≡ roomOf (now (s .entry)) p ⌝ }
@@ -92,6 +92,7 @@ fn room_of(s: &[u8], p: Parts) -> Room
         height,
         planes,
         objects,
+        clear: 255,
         image: p.image,
         image_end: p.image_end,
         smap: p.smap,

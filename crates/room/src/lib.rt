@@ -25,12 +25,13 @@ pub enum Needed {
     Missing,
 }
 
-// A room's sizes, and where its picture stands: IM00's payload, and the SMAP block with its header.
+// A room's sizes, its transparent index, and where its picture stands: IM00's payload, and the SMAP block with its header.
 pub struct Room {
     pub width: usize,
     pub height: usize,
     pub planes: usize,
     pub objects: usize,
+    pub clear: u8,
     pub image: usize,
     pub image_end: usize,
     pub smap: usize,

@@ -8,12 +8,12 @@ use lib.ListN.{length, replicate, getD, set, take, length-set, getD-replicate, L
 use native.Mathlib.Omega.{arith}
 use Rattle.number.proofs.BoolLaws.{and-left, and-right}
 use Rattle.bits.specs.Bits.{Pull, short, got, pull, bitsOf}
-use Rattle.strip.specs.Strip.{Move, refuse, go, choose, indexOp, walkOp, runOp, changeOp, opOf, measured, moveOf, Strip, refused, pixels, onto, prepend, decode}
+use Rattle.strip.specs.Strip.{Move, refuse, go, indexOp, walkOp, runOp, changeOp, opOf, measured, moveOf, Strip, refused, values, onto, prepend, decode}
 use Rattle.strip.specs.Strip.{minus, plus}
-use Rattle.strip.specs.Picture.{Picture, refusal, picture, unless, rawOf, shown, codedOf, byKind, stripOf, kindOf, placed}
+use Rattle.strip.specs.Picture.{Picture, refusal, picture, rawOf, shown, codedOf, byKind, stripOf, kindOf, placed}
 use Rattle.strip.specs.declared.Kind.{Kind}
 use Rattle.strip.specs.declared.Kind.the-variants.{Raw, Coded, Unknown}
-use Rattle.plane.specs.Mask.{Pending, literals, copies, Plan, past, leaves, planOf, rowsOf}
+use Rattle.plane.specs.Mask.{Pending, literals, copies, rowsIn, pendingOf, rowsOf}
 use Rattle.table.specs.Table.{tableRight, offsetAt}
 use Rattle.table.specs.Body.{bodyOf, stripAt, rowsAt}
 use Rattle.table.specs.Test.{number, andThen, pictureTest, rowsTest, stripTest, leftmost, blockTest}
@@ -39,8 +39,9 @@ use Rattle.image.proofs.FaultLaws.{fault-at}
 use Rattle.scene.specs.declared.Place.{Place}
 use Rattle.scene.specs.declared.Step.{Step}
 use Rattle.scene.specs.declared.Step.the-variants as step
+use Rattle.scene.specs.Steps.{mostSteps}
 use Rattle.stored.specs.Bytes.{down, stepAt, readable}
-use Rattle.replay.specs.Tables.{cellOf, verdictOf, draws, names, sized, TablesAgree}
+use Rattle.replay.specs.Tables.{cellOf, verdictOf, draws, names, sized, TablesAgree, verdictsLength}
 use Rattle.replay.proofs.TablesLaws.{cell-none, cell-row, cell-past, verdict-none, verdict-past, verdict-zero, verdict-over, verdict-cell}
 use Rattle.layers.specs.Decoded.{decoded}
 use Rattle.layers.specs.Ready.{Ready}
@@ -55,15 +56,15 @@ LowMove (go left c s l) = Unit {0}
 
 abbrev LowStrip : Strip → Type 0
 LowStrip (refused n) = (1 ≤ n) × (n ≤ 8)
-LowStrip (pixels xs) = Unit {0}
+LowStrip (values xs) = Unit {0}
 
 abbrev LowPicture : Picture → Type 0
 LowPicture (refusal n) = (1 ≤ n) × (n ≤ 8)
 LowPicture (picture clear px) = Unit {0}
 
-low-choose : (t : Bool) (a b : Move) → LowMove a → LowMove b → LowMove (choose t a b)
-low-choose true a b p q = p
-low-choose false a b p q = q
+low-cond : {A : Type 0} (Low : A → Type 0) (t : Bool) (a b : A) → Low a → Low b → Low (cond t a b)
+low-cond Low true a b p q = p
+low-cond Low false a b p q = q
 
 low-index : (p : Pull) → LowMove (indexOp p)
 low-index short = omega arith
@@ -80,7 +81,7 @@ low-run c s (got n l) = tt
 
 low-change : (c s : ℕ) (p : Pull) → LowMove (changeOp c s p)
 low-change c s short = omega arith
-low-change c s (got d l) = low-choose (eqb d 4) (runOp c s (pull 8 l)) (go 0 (minus (plus c d) 4) s l) (low-run c s (pull 8 l)) tt
+low-change c s (got d l) = low-cond LowMove (eqb d 4) (runOp c s (pull 8 l)) (go 0 (minus (plus c d) 4) s l) (low-run c s (pull 8 l)) tt
 
 low-op : (second : Bool) (w c s : ℕ) (l : List Bool) → LowMove (opOf second w c s l)
 low-op second w c s [] = omega arith
@@ -92,7 +93,7 @@ low-op true w c s (true ∷ true ∷ l) = low-change c s (pull 3 l)
 
 low-measured : (k : ℕ) (m : Move) → LowMove m → LowMove (measured k m)
 low-measured k (refuse n) h = h
-low-measured k (go left c s l) h = low-choose (leb left k) (go left c s l) (refuse 8) tt (omega arith)
+low-measured k (go left c s l) h = low-cond LowMove (leb left k) (go left c s l) (refuse 8) tt (omega arith)
 
 low-move : (second : Bool) (w k left c s : ℕ) (l : List Bool) → LowMove (moveOf second w k left c s l)
 low-move second w k zero c s l = low-measured k (opOf second w c s l) (low-op second w c s l)
@@ -100,11 +101,11 @@ low-move second w k (suc left) c s l = tt
 
 low-onto : (x : ℕ) (t : Strip) → LowStrip t → LowStrip (onto x t)
 low-onto x (refused n) h = h
-low-onto x (pixels xs) h = tt
+low-onto x (values xs) h = tt
 
 low-prepend : (xs : List ℕ) (t : Strip) → LowStrip t → LowStrip (prepend xs t)
 low-prepend xs (refused n) h = h
-low-prepend xs (pixels ys) h = tt
+low-prepend xs (values ys) h = tt
 
 low-decode : (second : Bool) (w k left c s : ℕ) (l : List Bool) → LowStrip (decode second w k left c s l)
 unfolding decode
@@ -117,17 +118,13 @@ low-decode second w (suc k) left c s l =
     on (refuse n) h rest = h
     on (go left′ c′ s′ l′) h rest = low-onto c′ (decode second w k left′ c′ s′ l′) (rest left′ c′ s′ l′)
 
-low-unless : (t : Bool) (a b : Picture) → LowPicture a → LowPicture b → LowPicture (unless t a b)
-low-unless true a b p q = p
-low-unless false a b p q = q
-
 low-raw : (h : ℕ) (l : List ℕ) → LowPicture (rawOf h l)
 unfolding rawOf
-low-raw h t = low-unless (ltb (length t) (8 * h)) (refusal 7) (picture false (placed false h t)) (omega arith) tt
+low-raw h t = low-cond LowPicture (ltb (length t) (8 * h)) (refusal 7) (picture false (placed false h t)) (omega arith) tt
 
 low-shown : (vertical clear : Bool) (h : ℕ) (t : Strip) → LowStrip t → LowPicture (shown vertical clear h t)
 low-shown vertical clear h (refused n) p = p
-low-shown vertical clear h (pixels xs) p = tt
+low-shown vertical clear h (values xs) p = tt
 
 low-coded : (second vertical clear : Bool) (w h : ℕ) (l : List ℕ) → LowPicture (codedOf second vertical clear w h l)
 unfolding codedOf
@@ -154,11 +151,8 @@ low-rows [] (suc k) p = omega arith
 low-rows (b ∷ t) zero p = tt
 low-rows (b ∷ t) (suc k) (copies n) = low-prepend (replicate n b) (rowsOf t (suc k - n) (literals zero)) (low-rows t (suc k - n) (literals zero))
 low-rows (b ∷ t) (suc k) (literals (suc n)) = low-onto b (rowsOf t k (literals n)) (low-rows t k (literals n))
-low-rows (b ∷ t) (suc k) (literals zero) = on (planOf (suc k) b) (λ p. low-rows t (suc k) p)
-  where
-    on : (q : Plan) → ((p : Pending) → LowStrip (rowsOf t (suc k) p)) → LowStrip (elim q [ past ↦ refused 8 | leaves p ↦ rowsOf t (suc k) p ])
-    on past rest = omega arith
-    on (leaves p) rest = rest p
+low-rows (b ∷ t) (suc k) (literals zero) =
+    low-cond LowStrip (ltb (suc k) (rowsIn b)) (refused 8) (rowsOf t (suc k) (pendingOf b)) (omega arith) (low-rows t (suc k) (pendingOf b))
 
 -- ---- tests
 
@@ -184,13 +178,13 @@ low-picture-test (picture clear px) h = tt
 
 low-rows-test : (t : Strip) → LowStrip t → LowTest (rowsTest t)
 low-rows-test (refused n) h = h
-low-rows-test (pixels xs) h = tt
+low-rows-test (values xs) h = tt
 
 low-rows-at : (n h : ℕ) (s : List ℕ) (b z k : ℕ) → LowStrip (rowsAt n h s b z k)
 unfolding rowsAt
 low-rows-at n h s b z k = on (eqb (offsetAt true s b k) 0)
   where
-    on : (t : Bool) → LowStrip (cond t (pixels (replicate h 0)) (rowsOf (bodyOf true n s b z k) h (literals 0)))
+    on : (t : Bool) → LowStrip (cond t (values (replicate h 0)) (rowsOf (bodyOf true n s b z k) h (literals 0)))
     on true = tt
     on false = low-rows (bodyOf true n s b z k) h (literals 0)
 
@@ -371,24 +365,25 @@ judged-step s r v v′ x o st a b p e eo es k h j = rw (e, ← eo, ← es) (k p 
 filled-each : (n b : ℕ) (v : List ℕ) → take n v ≡ replicate n b → (i : ℕ) → i < n → getD v i 0 ≡ b
 filled-each n b v e i lt = sym (getD-take n v i 0 lt) ∙ ap (λ (l : List ℕ). getD l i 0) e ∙ getD-replicate n i b 0 lt
 
-pub judged-none : (s : List ℕ) (r : Room) (v : List ℕ) → r .objects ≤ 128 → 1290 ≤ length v → take 1290 v ≡ replicate 1290 255 → Judged s r v []
+pub judged-none : (s : List ℕ) (r : Room) (v : List ℕ) → r .objects ≤ 128 → verdictsLength ≤ length v
+    → take verdictsLength v ≡ replicate verdictsLength 255 → Judged s r v []
 unfolding names
 judged-none s r v few long all =
     record {
       long = long;
-      right = λ o st i n. absurd (n (filled-each 1290 255 v all (10 * o + st) (omega (arith, few, i .last, i .highest))));
+      right = λ o st i n. absurd (n (filled-each verdictsLength 255 v all (10 * o + st) (omega (arith, few, i .last, i .highest))));
       done = λ o st i n c. absurd (false≢true n);
     }
 
 -- the history that is read
 module _ (s : List ℕ) (r : Room) (v l : List ℕ) where
-  pub judged-past : 64 < getD l 0 0 → Judged s r v [] → Judged s r v (readable l)
+  pub judged-past : mostSteps < getD l 0 0 → Judged s r v [] → Judged s r v (readable l)
   unfolding readable
-  judged-past lt j = rw (lt-leb (getD l 0 0) 64 lt) j
+  judged-past lt j = rw (lt-leb (getD l 0 0) mostSteps lt) j
 
-  pub judged-all : getD l 0 0 ≤ 64 → Judged s r v (down (stepAt l) (getD l 0 0)) → Judged s r v (readable l)
+  pub judged-all : getD l 0 0 ≤ mostSteps → Judged s r v (down (stepAt l) (getD l 0 0)) → Judged s r v (readable l)
   unfolding readable
-  judged-all le j = rw (le-leb (getD l 0 0) 64 le) j
+  judged-all le j = rw (le-leb (getD l 0 0) mostSteps le) j
 
 -- ---- what the tables tell
 

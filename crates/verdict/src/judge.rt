@@ -11,7 +11,8 @@ ghost use Rattle.scene.specs.declared.Place as place;
 ghost use Rattle.scene.specs.declared.Step as steps;
 ghost use Rattle.scene.specs.declared.Step.the-variants as variants;
 ghost use Rattle.stored.specs.Bytes.{readable};
-ghost use Rattle.replay.specs.Tables.{TablesAgree, askedBy};
+ghost use Rattle.stored.specs.Layout.{sessionSize};
+ghost use Rattle.replay.specs.Tables.{TablesAgree, askedBy, verdictsLength};
 ghost use Rattle.verdict.specs.Size.{sizeOf};
 ghost use Rattle.verdict.specs.Verdict.{Right, Judged};
 use block::Found;
@@ -20,8 +21,10 @@ use image::state::state_block;
 use image::test::test_image;
 use number::buffer::fill;
 use number::wide_u32;
+use replay::VERDICTS_LENGTH;
 use room::Room;
 use scene::Call;
+use scene::MOST_STEPS;
 use scene::Step;
 use stored::bytes::count;
 use stored::bytes::step_at;
@@ -59,7 +62,7 @@ fn verdict_of(room: &[u8], r: Room, table: &[u32], o: usize, s: usize) -> u8
 // The verdict of object o in state s is put into its cell, if it has one and is not judged yet.
 fn judge_image(room: &[u8], r: Room, table: &[u32], o: usize, s: usize, verdicts: &mut [u8])
     requires { ⌜ Ready (now room) r (now table) × (r .objects ≡ objectCount (now room)) ⌝ }
-    requires { ⌜ 1290 ≤ length (now verdicts) ⌝ }
+    requires { ⌜ verdictsLength ≤ length (now verdicts) ⌝ }
     ensures { λ _. ⌜ ((p : place.Place) (h : List steps.Step) → Judged (now (room .entry)) r (now (verdicts .entry)) h
         → Judged (now (room .entry)) r (now (verdicts .exit)) (variants.Draw o s p ∷ h)) ⌝ }
 {
@@ -86,7 +89,7 @@ fn judge_image(room: &[u8], r: Room, table: &[u32], o: usize, s: usize, verdicts
 // The verdict of the image that a step draws.
 fn judge_step(room: &[u8], r: Room, table: &[u32], step: Step, verdicts: &mut [u8])
     requires { ⌜ Ready (now room) r (now table) × (r .objects ≡ objectCount (now room)) ⌝ }
-    requires { ⌜ 1290 ≤ length (now verdicts) ⌝ }
+    requires { ⌜ verdictsLength ≤ length (now verdicts) ⌝ }
     ensures { λ _. ⌜ ((h : List steps.Step) → Judged (now (room .entry)) r (now (verdicts .entry)) h
         → Judged (now (room .entry)) r (now (verdicts .exit)) (step ∷ h)) ⌝ }
 {
@@ -103,12 +106,12 @@ fn judge_step(room: &[u8], r: Room, table: &[u32], step: Step, verdicts: &mut [u
 // The verdicts of the images that the session's history draws, in a table that holds no others.
 fn judge_steps(room: &[u8], r: Room, table: &[u32], session: &[u8], verdicts: &mut [u8])
     requires { ⌜ Ready (now room) r (now table) × (r .objects ≡ objectCount (now room)) ⌝ }
-    requires { ⌜ (450 ≤ length (now session)) × (1290 ≤ length (now verdicts)) ⌝ }
+    requires { ⌜ (sessionSize ≤ length (now session)) × (verdictsLength ≤ length (now verdicts)) ⌝ }
     ensures { λ _. ⌜ Judged (now (room .entry)) r (now (verdicts .exit)) (readable (now (session .entry))) ⌝ }
 {
-    fill(verdicts, 0, 1290, UNKNOWN);
+    fill(verdicts, 0, VERDICTS_LENGTH, UNKNOWN);
     let n = count(session[0]);
-    if 64 < n {
+    if MOST_STEPS < n {
         return;
     }
     let mut i: usize = 0;
@@ -122,7 +125,7 @@ fn judge_steps(room: &[u8], r: Room, table: &[u32], session: &[u8], verdicts: &m
 // The verdicts of the images that the session's history draws.
 pub fn judge_history(room: &[u8], r: Room, table: &[u32], session: &[u8], verdicts: &mut [u8])
     requires { ⌜ Ready (now room) r (now table) × (r .objects ≡ objectCount (now room)) ⌝ }
-    requires { ⌜ (450 ≤ length (now session)) × (1290 ≤ length (now verdicts)) ⌝ }
+    requires { ⌜ (sessionSize ≤ length (now session)) × (verdictsLength ≤ length (now verdicts)) ⌝ }
     ensures { λ _. ⌜ TablesAgree (decoded (now (room .entry)) r) (now (table .entry)) (now (verdicts .exit)) (sizeOf r)
         (readable (now (session .entry))) ⌝ }
 {
@@ -132,7 +135,7 @@ pub fn judge_history(room: &[u8], r: Room, table: &[u32], session: &[u8], verdic
 // The verdicts of the images that the session's history and the call draw.
 pub fn judge(room: &[u8], r: Room, table: &[u32], session: &[u8], call: Call, verdicts: &mut [u8])
     requires { ⌜ Ready (now room) r (now table) × (r .objects ≡ objectCount (now room)) ⌝ }
-    requires { ⌜ (450 ≤ length (now session)) × (1290 ≤ length (now verdicts)) ⌝ }
+    requires { ⌜ (sessionSize ≤ length (now session)) × (verdictsLength ≤ length (now verdicts)) ⌝ }
     ensures { λ _. ⌜ TablesAgree (decoded (now (room .entry)) r) (now (table .entry)) (now (verdicts .exit)) (sizeOf r)
         (askedBy call (readable (now (session .entry)))) ⌝ }
 {

@@ -1,5 +1,5 @@
 -- `load::empty_session` meets its contract. Assumes nothing.
-use Rattle.load.proofs.LoadLaws.{emptied-of}
+use Rattle.stored.proofs.BytesLaws.{emptied-of}
 use borrow.Author.Needs.{needs}
 use Rattle.load.proofs.empty_session.Statement.{statement}
 use Rattle.load.proofs.empty_session.Tie as tie

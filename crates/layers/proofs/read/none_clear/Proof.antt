@@ -9,19 +9,19 @@ use Rattle.layers.proofs.read.none_clear.Statement.{statement}
 use Rattle.layers.proofs.read.none_clear.Tie as tie
 
 abbrev Inv-loop : tie.InvT-loop
-Inv-loop values n clear i₀ i = (i ≤ n) × (noneClear clear values i ≡ true)
+Inv-loop values n index clear i₀ i = (i ≤ n) × (noneClear index clear values i ≡ true)
 
 abbrev μ-loop : tie.MeasureT-loop
-μ-loop values n clear i₀ i = n - i
+μ-loop values n index clear i₀ i = n - i
 
 loop-holds : tie.Need-loop-holds Inv-loop μ-loop
-loop-holds c = (omega arith, clear-none _ _ 0)
+loop-holds c = (omega arith, clear-none _ _ _ 0)
 
 returns : tie.Need-returns Inv-loop μ-loop
-returns c = clear-found _ _ _ _ (c .before .before .loop-test .taken) (c .if1 .taken)
+returns c = clear-found _ _ _ _ _ (c .before .before .loop-test .taken) (c .if1 .taken)
 
 loop-again : tie.Need-loop-again Inv-loop μ-loop
-loop-again c = (omega arith, clear-more _ _ 0 _ (c .before .before .before .loop .inv .1) (c .if1 .left))
+loop-again c = (omega arith, clear-more _ _ _ 0 _ (c .before .before .before .loop .inv .1) (c .if1 .left))
 
 returns-2 : tie.Need-returns-2 Inv-loop μ-loop
 returns-2 c =

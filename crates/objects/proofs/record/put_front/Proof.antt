@@ -2,8 +2,7 @@ use mathlib.Core.List.{_++_}
 use native.Mathlib.Numerals.{add-one}
 use lib.ListN.{length-set}
 use lib.Seq.{take-suc, take-suc-set, take-all}
-use Rattle.number.proofs.BufferLaws.{drop-store}
-use Rattle.strip.proofs.PictureLaws.{over-of}
+use Rattle.number.proofs.BufferLaws.{drop-store, over-of}
 use lib.ListN.{length, take, drop, getD}
 use denote.Ref.{now}
 use native.Mathlib.Omega.{arith}

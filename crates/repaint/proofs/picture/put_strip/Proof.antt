@@ -22,8 +22,8 @@ returns c =
     let read = read-strip .ensures in
     let drawn = clear .given .1 in
     let blit = blit-strip .ensures in (
-      c .none-clear .ensures ∙ read-none-clear _ _ _ (p .1) (p .2) _ _ _ read _ drawn,
-      box-same _ _ _ _ _ _ _ _ _ (λ x q o lx lq. read-over _ _ _ (p .1) (p .2) _ _ _ read _ drawn _ o (omega arith)) blit,
+      c .none-clear .ensures ∙ read-none-clear _ _ _ (p .1) (p .2) _ _ _ read _ drawn _,
+      box-same _ _ _ _ _ _ _ _ _ (λ x q o lx lq. read-over _ _ _ (p .1) (p .2) _ _ _ read _ drawn _ _ o (omega arith)) blit,
     )
 
 returns-2 : tie.Need-returns-2

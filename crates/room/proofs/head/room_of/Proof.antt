@@ -12,6 +12,7 @@ returns c =
       height = c .before .before .read-le162 .ensures .0 i;
       planes = c .before .read-le163 .ensures .0 i;
       objects = c .count-tag .ensures i;
+      clear = 255;
       image = c .before .before .before .before .before .args .p .image;
       «image_end» = c .before .before .before .before .before .args .p .«image_end»;
       smap = c .before .before .before .before .before .args .p .smap;

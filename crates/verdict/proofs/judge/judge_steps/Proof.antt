@@ -5,6 +5,7 @@ use lib.ListN.{length}
 use native.Mathlib.Numerals.{add-one}
 use Prim.Native.Nat.{_≤_, _-_}
 use mathlib.Core.Path.{_≡_}
+use Rattle.scene.specs.Steps.{mostSteps}
 use Rattle.stored.specs.Bytes.{down, stepAt}
 use Rattle.verdict.specs.Verdict.{Judged}
 use Rattle.verdict.proofs.VerdictLaws.{judged-none, judged-past, judged-all}
@@ -12,7 +13,7 @@ use Rattle.verdict.proofs.judge.judge_steps.Statement.{statement}
 use Rattle.verdict.proofs.judge.judge_steps.Tie as tie
 
 abbrev Inv-loop : tie.InvT-loop
-Inv-loop room r table session verdicts₀ n i₀ verdicts i = (i ≤ n) × (n ≤ 64) × (length verdicts ≡ length verdicts₀) × Judged room r verdicts
+Inv-loop room r table session verdicts₀ n i₀ verdicts i = (i ≤ n) × (n ≤ mostSteps) × (length verdicts ≡ length verdicts₀) × Judged room r verdicts
     (down (stepAt session) i)
 
 abbrev μ-loop : tie.MeasureT-loop
