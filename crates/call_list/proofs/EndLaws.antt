@@ -1,23 +1,27 @@
--- What a run leaves, at its two ends: the load refused, or the calls played. Assumes nothing.
+-- What a run leaves, at its two ends: the load refused, or the calls played, each as demand 3 has it. Assumes nothing.
 use Prim.Native.Nat.{ℕ}
 use mathlib.Core.Path.{_≡_, refl, sym, ap, _∙_, subst}
 use mathlib.Core.List.{List}
 use native.Mathlib.Omega.{arith}
+use lib.ListN.{getD}
 use Rattle.room.specs.Test as test
 use Rattle.room.specs.declared.Room as room
 use Rattle.room.specs.declared.Tested.{Tested}
 use Rattle.room.specs.declared.Tested.the-variants.{Right, Refused}
-use Rattle.layers.specs.Decoded.{decoded}
-use Rattle.play.specs.Bytes.{Lent, testOf, afterLoad, numberOf, bytesAfter}
+use Rattle.play.specs.Bytes.{Lent, testOf, afterLoad, played, bytesAfter}
+use Rattle.demands.proofs.Demand3.{demand3}
 use Rattle.call_list.specs.Coded.{callAt, callsOf, callCount}
-use Rattle.call_list.specs.Run.{played, playedNumber, putFirst, numberAt, bytesRun, numbersRun}
-use Rattle.call_list.specs.Promise.{Demand3Held}
-use Rattle.call_list.proofs.RunLaws.{LowTested, low-room, played-load, put-same}
-use Rattle.call_list.proofs.HeldLaws.{demand3-held}
+use Rattle.call_list.specs.Run.{playedNumber, putFirst, numberAt, ifPassed, bytesRun, numbersRun}
+use Rattle.call_list.specs.Promise.{RunHolds}
+use Rattle.call_list.proofs.RunLaws.{LowTested, low-room, put-at}
 
 abbrev IsRefused : Tested → Type 0
 IsRefused (Right r) = ⊥
 IsRefused (Refused k) = Unit {0}
+
+-- a room that passes gives the first
+passed : {A : Type 0} {t : Tested} {r : room.Room} (x y : A) → t ≡ Right r → x ≡ ifPassed t x y
+passed x y e = rw e
 
 module _ (s : List ℕ) (b : Lent) (l old : List ℕ) where
   abbrev n : ℕ
@@ -29,7 +33,7 @@ module _ (s : List ℕ) (b : Lent) (l old : List ℕ) where
       (m ≡ test.numberOf (testOf s b))
       × ((after ≡ bytesRun s b l n)
       × ((out ≡ numbersRun s b l n old)
-      × ((r : room.Room) → testOf s b ≡ Right r → Demand3Held (decoded s r) b l n out after)))
+      × ((r : room.Room) → testOf s b ≡ Right r → RunHolds s r b l n out after)))
 
   module _ (m : ℕ) (given : m ≡ test.numberOf (testOf s b)) (x : Lent) (session : x .session ≡ afterLoad s b .session)
       (pixels : x .pixels ≡ afterLoad s b .pixels) (masks : x .masks ≡ afterLoad s b .masks) where
@@ -45,22 +49,26 @@ module _ (s : List ℕ) (b : Lent) (l old : List ℕ) where
 
     module _ (after : Lent) (out : List ℕ) (p : after ≡ played s x (callsOf l n)) (q : out ≡ putFirst (playedNumber s x l) n old) where
       after-is : after ≡ bytesAfter s b (callsOf l n)
-      after-is = p ∙ ap (λ (w : Lent). played s w (callsOf l n)) load-is ∙ played-load s b (callsOf l n)
+      after-is = p ∙ ap (λ (w : Lent). played s w (callsOf l n)) load-is
 
       out-is : out ≡ putFirst (numberAt s b l) n old
-      out-is =
-          q ∙ ap (λ (w : Lent). putFirst (playedNumber s w l) n old) load-is
-          ∙ put-same _ _ (λ i. ap (λ (w : Lent). numberOf s w (callAt l i)) (played-load s b (callsOf l i))) n old
+      out-is = q ∙ ap (λ (w : Lent). putFirst (playedNumber s w l) n old) load-is
 
-      held : (r : room.Room) → testOf s b ≡ Right r → Demand3Held (decoded s r) b l n out after
+      held : (r : room.Room) → testOf s b ≡ Right r → RunHolds s r b l n out after
       held r e =
-          subst (λ (w : Lent). Demand3Held (decoded s r) b l n out w) (sym after-is)
-          (subst (λ (w : List ℕ). Demand3Held (decoded s r) b l n w (bytesAfter s b (callsOf l n))) (sym out-is)
-          (demand3-held s r b e l n old (omega arith)))
+          record {
+            load = demand3 .load s b r e;
+            call = λ i lt. demand3 .call s b r e (callsOf l i) (callAt l i);
+            number = λ i lt. ap (λ (w : List ℕ). getD w i 0) out-is ∙ put-at (numberAt s b l) n old (omega arith) i lt;
+            left = after-is;
+          }
 
       pub played-run : m ≡ 0 → Ran 0 after out
       played-run z = go (testOf s b) refl (low-room _ s)
         where
           go : (t : Tested) → testOf s b ≡ t → LowTested t → Ran 0 after out
-          go (Right r) e low = (sym z ∙ given, (rw e after-is, (rw e out-is, held)))
+          go (Right r) e low =
+              let bytes = bytesAfter s b (callsOf l n) in
+              let numbers = putFirst (numberAt s b l) n old in
+              (sym z ∙ given, (after-is ∙ passed bytes b e, (out-is ∙ passed numbers old e, held)))
           go (Refused k) e low = absurd (let w : k ≡ 0 = sym (given ∙ ap test.numberOf e) ∙ z in omega arith)

@@ -1,4 +1,3 @@
 pub mod CodedLaws
 pub mod RunLaws
-pub mod HeldLaws
 pub mod EndLaws

@@ -1,5 +1,4 @@
--- Laws of runs: a room's refusal is 1 to 8 and a call's number at most 13; playing on a loaded session is playing from the load on; what
--- stands at a place of the numbers; and demand 3 of the whole run. Assumes nothing.
+-- Laws of runs: a room's refusal is 1 to 8 and a call's number at most 13; what stands at a place of the numbers. Assumes nothing.
 use Prim.Native.Nat.{ℕ, zero, suc, _+_, _≤_, _<_}
 use mathlib.Core.Path.{_≡_, refl, sym, ap, _∙_}
 use mathlib.Core.Bool.{Bool, true, false, cond, not}
@@ -24,18 +23,19 @@ use Rattle.room.specs.declared.Room as room
 use Rattle.room.specs.declared.Tested.{Tested}
 use Rattle.room.specs.declared.Tested.the-variants.{Right, Refused}
 use Rattle.scene.specs.Painting.{Room}
-use Rattle.scene.specs.Steps.{Scene, some, allowed, entryOf, refusal}
+use Rattle.scene.specs.Steps.{Scene, some, allowed, entryOf, refusal, mostSteps}
 use Rattle.scene.specs.declared.Call.{Call}
 use Rattle.scene.specs.declared.Call.the-variants.{Make, TakeBack}
+use Rattle.scene.specs.Calls.{afterAll}
 use Rattle.scene.specs.Session.{State, rightFor, sceneOf, unmade, tried, called, refused}
 use Rattle.scene.specs.declared.Step.{Step}
 use Rattle.scene.specs.declared.Step.the-variants.{Draw, Hide}
 use Rattle.layers.specs.Decoded.{decoded}
-use Rattle.play.specs.Bytes.{lent, Lent, testOf, afterLoad, afterCall, numberOf, bytesAfter}
+use Rattle.play.specs.Bytes.{lent, Lent, callTest, afterCall, numberOf, played}
 use Rattle.play.specs.Calls.{stateOf, callNumber}
 use Rattle.verdict.proofs.VerdictLaws.{LowTest, low-im, low-fault}
 use Rattle.call_list.specs.Coded.{callAt, callsOf}
-use Rattle.call_list.specs.Run.{played, playedNumber, putFirst}
+use Rattle.call_list.specs.Run.{playedNumber, putFirst}
 
 -- ---- a room's refusal
 
@@ -101,12 +101,12 @@ module _ (s : List ℕ) (r : room.Room) where
   low-refusal : (n : ℕ) (sc : Scene) (st : Step) → refusal D n sc st ≤ 13
   unfolding refusal decoded
   low-refusal n sc (Draw o st p) =
-      low-cond (leb 64 n) 10 _ (omega arith)
+      low-cond (leb mostSteps n) 10 _ (omega arith)
       (low-cond (not (D .drawable o st)) 11 _ (omega arith)
       (low-cond (not (allowed D (entryOf sc o st p))) 12 _ (omega arith)
       (omega (arith, low-fault (r .planes) s o st))))
   low-refusal n sc (Hide o) =
-      low-cond (leb 64 n) 10 _ (omega arith)
+      low-cond (leb mostSteps n) 10 _ (omega arith)
       (low-cond (some (λ e. eqb (e .object) o) (sc .shown)) 0 11 (omega arith) (omega arith))
 
   low-unmade : (h : List Step) (b : State) → unmade D h b .number ≤ 13
@@ -128,23 +128,13 @@ module _ (s : List ℕ) (r : room.Room) where
       on false = omega arith
 
 pub low-call : (s : List ℕ) (x : Lent) (c : Call) → numberOf s x c ≤ 13
-low-call s x c = on (testOf s x) (low-room _ s)
+low-call s x c = on (callTest s x) (low-room _ s)
   where
     on : (t : Tested) → LowTested t → callNumber s (x .session) (x .pixels) (x .masks) c t ≤ 13
     on (Right r) h = low-called s r (stateOf (decoded s r) (x .session) (x .pixels) (x .masks)) c
     on (Refused n) h = omega arith
 
 -- ---- playing on
-
-pub played-load : (s : List ℕ) (b : Lent) (cs : List Call) → played s (afterLoad s b) cs ≡ bytesAfter s b cs
-unfolding played bytesAfter
-played-load s b [] = refl
-played-load s b (c ∷ cs) = ap (λ (x : Lent). afterCall s x c) (played-load s b cs)
-
-pub put-same : (f g : ℕ → ℕ) → ((i : ℕ) → f i ≡ g i) → (n : ℕ) (old : List ℕ) → putFirst f n old ≡ putFirst g n old
-unfolding putFirst
-put-same f g e zero old = refl
-put-same f g e (suc n) old = λ i. set (put-same f g e n old i) n (e n i)
 
 pub put-length : (f : ℕ → ℕ) (n : ℕ) (old : List ℕ) → length (putFirst f n old) ≡ length old
 unfolding putFirst
@@ -161,7 +151,7 @@ put-at f (suc n) old le i lt =
 -- a turn: the bytes y and the numbers `now` after i calls, and call i played on them
 module _ (s : List ℕ) (x y : Lent) (l : List ℕ) (i : ℕ) (e : y ≡ played s x (callsOf l i)) where
   pub turn-bytes : (z : Lent) → z ≡ afterCall s y (callAt l i) → z ≡ played s x (callsOf l (i + 1))
-  unfolding played callsOf
+  unfolding afterAll played callsOf
   turn-bytes z f = f ∙ ap (λ (w : Lent). afterCall s w (callAt l i)) e ∙ ap (λ (k : ℕ). played s x (callsOf l k)) (sym (add-one i))
 
   pub turn-numbers : (m : ℕ) (now old : List ℕ) → m ≡ numberOf s y (callAt l i) → now ≡ putFirst (playedNumber s x l) i old

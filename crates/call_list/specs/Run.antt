@@ -1,17 +1,11 @@
 -- What a run leaves: the bytes and the numbers after a load and the first n calls of a list. Assumes nothing.
 use Prim.Native.Nat.{ℕ, zero, suc}
-use mathlib.Core.List.{List, [], _∷_}
+use mathlib.Core.List.{List}
 use lib.ListN.{set}
 use Rattle.room.specs.declared.Tested.{Tested}
 use Rattle.room.specs.declared.Tested.the-variants.{Right, Refused}
-use Rattle.scene.specs.declared.Call.{Call}
-use Rattle.play.specs.Bytes.{Lent, testOf, afterCall, numberOf, bytesAfter}
+use Rattle.play.specs.Bytes.{Lent, testOf, numberOf, played, bytesAfter}
 use Rattle.call_list.specs.Coded.{callAt, callsOf}
-
--- the bytes after calls, the newest first, from bytes that hold a session
-unfoldable pub played : List ℕ → Lent → List Call → Lent
-played s x [] = x
-played s x (c ∷ cs) = afterCall s (played s x cs) c
 
 -- the number of call i, from bytes that hold a session
 abbrev pub playedNumber : List ℕ → Lent → (calls : List ℕ) → (i : ℕ) → ℕ

@@ -4,11 +4,10 @@ ghost use mathlib.Core.Path.{_≡_};
 ghost use Rattle.room.specs.Test.{numberOf};
 ghost use Rattle.room.specs.declared.Room as rooms;
 ghost use Rattle.room.specs.declared.Tested.the-variants.{Right};
-ghost use Rattle.layers.specs.Decoded.{decoded};
 ghost use Rattle.play.specs.Bytes.{lent, testOf};
 ghost use Rattle.call_list.specs.Coded.{callCount};
 ghost use Rattle.call_list.specs.Run.{bytesRun, numbersRun};
-ghost use Rattle.call_list.specs.Promise.{Demand3Held};
+ghost use Rattle.call_list.specs.Promise.{RunHolds};
 use crate::calls::play_all;
 
 pub mod calls;
@@ -31,7 +30,7 @@ pub fn run(
         (callCount (now (calls .entry)) (now (numbers .entry))) (now (numbers .entry)) ⌝ }
     ensures { λ _. ⌜ ((r : rooms.Room)
         → testOf (now (room .entry)) (lent (now (session .entry)) (now (pixels .entry)) (now (masks .entry))) ≡ Right r
-        → Demand3Held (decoded (now (room .entry)) r) (lent (now (session .entry)) (now (pixels .entry)) (now (masks .entry))) (now (calls .entry))
+        → RunHolds (now (room .entry)) r (lent (now (session .entry)) (now (pixels .entry)) (now (masks .entry))) (now (calls .entry))
         (callCount (now (calls .entry)) (now (numbers .entry))) (now (numbers .exit)) (lent (now (session .exit)) (now (pixels .exit)) (now (masks .exit)))) ⌝ }
 {
     let refusal = load::load(room, session, pixels, masks);

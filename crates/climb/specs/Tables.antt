@@ -1,5 +1,6 @@
 -- The code's own values: the boxes of a room's objects as a table of 8 numbers each, those of object o from 8 * o on (0, x, y, width,
 -- height, flags, parent, 0), and a number for each object's state.
+-- For the proofs: no public promise rests on what this page says.
 use Prim.Native.Nat.{ℕ, _+_, _*_, _≤_}
 use mathlib.Core.Path.{_≡_}
 use mathlib.Core.List.{List}

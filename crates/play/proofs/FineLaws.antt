@@ -9,7 +9,7 @@ use lib.Dec.{eqb, leb}
 use lib.ListN.{length, getD}
 use Rattle.room.specs.declared.Room as room
 use Rattle.scene.specs.Painting.{Room}
-use Rattle.scene.specs.Steps.{Scene, allowed, applied, adds, removes, without, entryOf, refusal, bare, replay, replays}
+use Rattle.scene.specs.Steps.{Scene, allowed, applied, adds, removes, without, entryOf, refusal, replay, replays, mostSteps}
 use Rattle.scene.specs.declared.Call.{Call}
 use Rattle.scene.specs.declared.Call.the-variants.{Make, TakeBack}
 use Rattle.scene.specs.declared.Entry.{Entry}
@@ -17,10 +17,12 @@ use Rattle.scene.specs.declared.Step.{Step}
 use Rattle.scene.specs.declared.Step.the-variants.{Draw, Hide}
 use Rattle.stored.specs.declared.Shown.{Shown}
 use Rattle.stored.specs.Bytes.{All, down, stepAt, stepsOf, entries}
-use Rattle.replay.specs.Replay.{planOf}
+use Rattle.replay.specs.Replay.{planOf, groundOf}
 use Rattle.session.specs.Plans.{planned}
 use Rattle.stored.proofs.Lists.{all-append, all-without}
 use Rattle.replay.proofs.Lists.{append-nil}
+use Rattle.replay.proofs.GroundLaws as ground
+use Rattle.replay.proofs.GroundLaws.{Ground, session-ground}
 use Rattle.replay.proofs.ReplayLaws.{accepted-draw, replays-older, right-shown}
 use Rattle.session.proofs.PlanLaws.{accepted-plan, accepted-back}
 use Rattle.layers.specs.Decoded.{decoded, entryAt, entriesOf}
@@ -29,7 +31,7 @@ use Rattle.verdict.proofs.VerdictLaws.{fault-passed}
 
 module _ (room : Room) where
   abbrev pub Fine : Entry → Type 0
-  Fine e = (room .drawable (e .object) (e .state) ≡ true) × (allowed room e ≡ true) × (room .fault (e .object) (e .state) ≡ 0)
+  Fine e = ground.Fine room e
 
   after-12 : (a : Bool) (x k : ℕ) → (x ≡ 0 → ⊥) → cond (not a) x k ≡ 0 → k ≡ 0
   after-12 true x k f e = e
@@ -43,7 +45,7 @@ module _ (room : Room) where
   unfolding refusal
   accepted-fine n sc o s p e =
       after-12 (allowed room (entryOf sc o s p)) 12 _ (λ q. omega arith)
-      (after-12 (room .drawable o s) 11 _ (λ q. omega arith) (after-10 (leb 64 n) 10 _ (λ q. omega arith) e))
+      (after-12 (room .drawable o s) 11 _ (λ q. omega arith) (after-10 (leb mostSteps n) 10 _ (λ q. omega arith) e))
 
   applied-fine : (n : ℕ) (sc : Scene) (st : Step) → refusal room n sc st ≡ 0 → All Fine (sc .shown) → All Fine (applied room sc st .shown)
   unfolding applied adds entryOf
@@ -58,24 +60,25 @@ module _ (room : Room) where
       rw (append-nil (without (removes room sc (Hide o)) (sc .shown)))
       (all-without Fine Fine (removes room sc (Hide o)) (sc .shown) (λ f q b. b) a)
 
-  all-fine : (h : List Step) → replays room (bare room) h ≡ true → All Fine (replay room (bare room) h .shown)
-  unfolding replay bare
-  all-fine [] e = tt
-  all-fine (st ∷ h) e =
-      let a = replays-older room st h e in
-      applied-fine (length h) (replay room (bare room) h) st (a .1) (all-fine h (a .0))
+  all-fine : (g : Scene) → Ground room g → (h : List Step) → replays room g h ≡ true → All Fine (replay room g h .shown)
+  unfolding replay
+  all-fine g G [] e = G .fine
+  all-fine g G (st ∷ h) e =
+      let a = replays-older room g st h e in
+      applied-fine (length h) (replay room g h) st (a .1) (all-fine g G h (a .0))
 
   -- so can those of the list that an accepted call leaves
   pub planned-fine : (l : List ℕ) (c : Call) (a : Shown) → planOf a ≡ planned room l c → a .refusal ≡ 0 → All Fine (entries a)
   planned-fine l (Make st) a q y =
       let p = accepted-plan room l st a q y in
-      let all = all-fine (stepsOf l) (right-shown room l (p .0) .0) in
-      subst (All Fine) (sym (p .2)) (applied-fine (length (stepsOf l)) (replay room (bare room) (stepsOf l)) st (p .1) all)
+      let all = all-fine (groundOf room l) (session-ground room l) (stepsOf l) (right-shown room l (p .0) .0) in
+      subst (All Fine) (sym (p .2)) (applied-fine (length (stepsOf l)) (replay room (groundOf room l) (stepsOf l)) st (p .1) all)
   planned-fine l TakeBack a q y =
       let p = accepted-back room l a q y in
-      let all = subst (λ (h : List Step). replays room (bare room) h ≡ true) (p .1) (right-shown room l (p .0) .0) in
+      let g = groundOf room l in
+      let all = subst (λ (h : List Step). replays room g h ≡ true) (p .1) (right-shown room l (p .0) .0) in
       let n = getD l 0 0 - 1 in
-      subst (All Fine) (sym (p .2)) (all-fine (down (stepAt l) n) (replays-older room (stepAt l n) (down (stepAt l) n) all .0))
+      subst (All Fine) (sym (p .2)) (all-fine g (session-ground room l) (down (stepAt l) n) (replays-older room g (stepAt l n) (down (stepAt l) n) all .0))
 
 -- ---- entries that can be painted, by their numbers
 

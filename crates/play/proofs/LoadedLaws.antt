@@ -10,17 +10,18 @@ use native.Mathlib.Omega.{arith}
 use borrow.Author.Tests.{lt-ltb, le-ltb}
 use lib.Dec.{ltb}
 use lib.ListN.{getD}
+use Rattle.number.specs.Buffer.{over}
 use Rattle.grid.specs.Grid.{upd, boxed}
 use Rattle.grid.proofs.Upd.{upd-ext}
 use Rattle.grid.proofs.Box.{boxed-in, boxed-off, within-hi}
-use Rattle.strip.specs.Picture.{over}
 use Rattle.room.specs.Head.{Sound}
 use Rattle.room.specs.Test.{strips}
 use Rattle.room.specs.declared.Room as room
-use Rattle.load.specs.Load.{background, mask, loadedPixels, loadedMasks, emptied}
+use Rattle.load.specs.Load.{background, mask, loadedPixels, loadedMasks}
 use Rattle.scene.specs.Painting.{Room, pixelLayout, maskLayout, rebuiltBytes, newByte, freshByte, layered}
+use Rattle.scene.specs.Steps.{bare}
 use Rattle.scene.specs.Session.{loaded}
-use Rattle.stored.specs.Bytes.{sessionOf, marksFrom, allPlaced}
+use Rattle.stored.specs.Bytes.{sessionOf, marksFrom, allPlaced, emptied}
 use Rattle.layers.specs.Decoded.{decoded}
 use Rattle.play.specs.Calls.{stateOf}
 
@@ -65,7 +66,7 @@ module _ (s : List ℕ) (r : room.Room) (sound : Sound s r) where
       ∙ ap (λ (b : Bool). cond b (mask s r (i / strips r / r .height + 1) (i % strips r) (i / strips r % r .height)) (getD l i 0))
       (sym (and-true (ltb i (r .planes * r .height * strips r)))))
 
-  empty-session : (l : List ℕ) → sessionOf D (emptied l) ≡ record { history = []; shown = [] }
+  empty-session : (l : List ℕ) → sessionOf D (emptied l) ≡ record { ground = bare D; history = []; shown = [] }
   unfolding sessionOf emptied over marksFrom allPlaced
   empty-session l = refl
 

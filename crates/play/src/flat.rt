@@ -4,10 +4,11 @@ ghost use Prim.Native.Nat.{_*_, _≤_};
 ghost use lib.ListN.{length};
 ghost use Rattle.layers.specs.Decoded.{entriesOf};
 ghost use Rattle.stored.specs.Bytes.{entries};
+ghost use Rattle.stored.specs.Layout.{mostShown};
 use stored::Shown;
 
 pub fn flatten(s: Shown, out: &mut [u32])
-    requires { ⌜ (s .n ≤ 64) × (256 ≤ length (now out)) ⌝ }
+    requires { ⌜ (s .n ≤ mostShown) × (256 ≤ length (now out)) ⌝ }
     ensures { λ _. ⌜ entriesOf (now (out .exit)) (s .n) ≡ entries s ⌝ }
 {
     let n = s.n;

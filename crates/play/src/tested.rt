@@ -5,10 +5,12 @@ ghost use lib.ListN.{length};
 ghost use Rattle.room.specs.Test.{strips};
 ghost use Rattle.room.specs.declared.Tested.the-variants.{Right};
 ghost use Rattle.image.specs.Image.{objectCount};
+ghost use Rattle.stored.specs.Layout.{sessionSize};
 ghost use Rattle.layers.specs.Ready.{Ready};
 ghost use Rattle.play.specs.Bytes.{lent, numberBy, afterBy};
 use crate::flat::flatten;
 use repaint::rebuild;
+use replay::VERDICTS_LENGTH;
 use room::Room;
 use scene::Call;
 use session::plan::plan;
@@ -27,14 +29,14 @@ pub fn call_tested(
     masks: &mut [u8],
     call: Call,
 ) -> u32
-    requires { ⌜ Ready (now room) r (now table) × (r .objects ≡ objectCount (now room)) × (450 ≤ length (now session)) ⌝ }
+    requires { ⌜ Ready (now room) r (now table) × (r .objects ≡ objectCount (now room)) × (sessionSize ≤ length (now session)) ⌝ }
     requires { ⌜ (r .width * r .height ≤ length (now pixels)) × (strips r * (r .planes * r .height) ≤ length (now masks)) ⌝ }
     ensures { λ n. ⌜ n
         ≡ numberBy (now (room .entry)) (lent (now (session .entry)) (now (pixels .entry)) (now (masks .entry))) call (Right r) ⌝ }
     ensures { λ _. ⌜ lent (now (session .exit)) (now (pixels .exit)) (now (masks .exit))
         ≡ afterBy (now (room .entry)) (lent (now (session .entry)) (now (pixels .entry)) (now (masks .entry))) call (Right r) ⌝ }
 {
-    let mut verdicts = [0u8; 1290];
+    let mut verdicts = [0u8; VERDICTS_LENGTH];
     judge(room, r, table, &session[..], call, &mut verdicts);
     let size = size_of(r);
     let mut strips = [0u8; 128];

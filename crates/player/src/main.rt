@@ -10,6 +10,7 @@ use number::wide;
 use room::Room;
 use room::Tested;
 use room::head::read_head;
+use stored::SESSION_SIZE;
 
 fn text(bytes: &[u8]) {
     io::write_all(1, bytes);
@@ -86,7 +87,7 @@ fn mask_buffer() -> [u8; 102400]
 
 // Plays the calls on the room, and prints what comes of it.
 fn play(room: &[u8], calls: &[u8]) {
-    let mut session = [0u8; 450];
+    let mut session = [0u8; SESSION_SIZE];
     let mut pixels = pixel_buffer();
     let mut masks = mask_buffer();
     let mut numbers = io::buffer();

@@ -6,18 +6,21 @@ use mathlib.Core.List.{List}
 use mathlib.Core.Bool.{true≢false}
 use borrow.Author.Tests.{lt-ltb, le-ltb, ltb-false, eq-eqb, ne-eqb}
 use lib.Dec.{ltb, eqb}
+use lib.ListN.{getD}
 use Rattle.room.specs.Test.{short, withFlags}
 use Rattle.room.specs.declared.Room as room
 use Rattle.scene.specs.Painting.{Room}
+use Rattle.scene.specs.Steps.{Scene}
 use Rattle.scene.specs.Session.{rightFor, sceneOf}
-use Rattle.scene.specs.declared.Entry.{Entry}
 use Rattle.stored.specs.Bytes.{sessionOf, stepsOf, readable, entries}
-use Rattle.replay.specs.Replay.{planOf, sceneAfter}
-use Rattle.session.specs.Plans.{validShown}
+use Rattle.replay.specs.Places.{sceneIn}
+use Rattle.replay.specs.Replay.{planOf}
+use Rattle.session.specs.Plans.{validShown, LastPlaces}
 use Rattle.replay.specs.Tables.{TablesAgree, roomOfTables}
 use Rattle.stored.specs.declared.Shown.{Shown}
 use Rattle.session.proofs.Caller.{valid-known}
 use Rattle.replay.proofs.JudgedLaws.{plan-means}
+use Rattle.session.proofs.BridgeLaws.{replay-is}
 use Rattle.layers.specs.Decoded.{decoded}
 use Rattle.verdict.specs.Size.{sizeOf}
 use Rattle.point.specs.Objects.{objectsOf}
@@ -66,9 +69,12 @@ module _ (s : List ℕ) (r : room.Room) (t v l flags : List ℕ) (x y : ℕ) (K 
       unfolding asked
       asked-below h = rw (right, lt-ltb x (r .width) across, le-ltb y (r .height) h)
 
-      pub asked-in : y < r .height → (o : ℕ) (p : Pointed) → p ≡ found o
-          → ((d : Room) → o ≡ objectAt (objectsOf s) (sceneAfter d (stepsOf l) (entries shown)) flags x y) → p ≡ asked s r l flags x y
+      pub asked-in : y < r .height → (o : ℕ) (p : Pointed) → p ≡ found o → (places : List ℕ)
+          → LastPlaces (roomOfTables t v (sizeOf r)) l (getD l 0 0) places
+          → o ≡ objectAt (objectsOf s) (sceneIn places (entries shown)) flags x y → p ≡ asked s r l flags x y
       unfolding asked sceneOf sessionOf
-      asked-in h o p e f =
-          e ∙ ap found (f D ∙ ap (λ (es : List Entry). objectAt (objectsOf s) (sceneAfter D (stepsOf l) es) flags x y) (means .1 z))
+      asked-in h o p e places k f =
+          let last = k ∙ sym (ap (λ (c : Scene). c .last) (replay-is D t v (sizeOf r) (readable l) K l (stepsOf l))) in
+          let same : sceneIn places (entries shown) ≡ sceneOf D (sessionOf D l) = λ i. record { shown = means .1 z i; last = last i } in
+          e ∙ ap found (f ∙ ap (λ (c : Scene). objectAt (objectsOf s) c flags x y) same)
           ∙ rw (right, lt-ltb x (r .width) across, lt-ltb y (r .height) h)

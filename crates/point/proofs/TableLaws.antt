@@ -2,25 +2,21 @@
 use Prim.Native.Nat.{ℕ, zero, suc, _+_, _*_, _-_, _≤_, _<_}
 use mathlib.Core.Path.{_≡_, refl, sym, ap, _∙_}
 use mathlib.Core.Bool.{Bool, true, false, cond, not, _&&_, false≢true}
-use mathlib.Core.List.{List, [], _∷_}
+use mathlib.Core.List.{List, []}
 use native.Mathlib.Omega.{arith}
-use borrow.Author.Tests.{eqb-true, eq-eqb, ne-eqb, leb-true, not-true, not-false}
+use borrow.Author.Tests.{eq-eqb, ne-eqb, leb-true, not-true, not-false}
 use lib.Dec.{eqb, leb}
 use lib.ListN.{getD}
 use Rattle.objects.specs.Object.{objectBlock}
 use Rattle.image.specs.Gathered.{Filled}
 use Rattle.image.specs.Image.{objectCount}
 use Rattle.image.specs.Rows.{headerRow, objectRow}
-use Rattle.scene.specs.Painting.{Room}
-use Rattle.scene.specs.Steps.{Scene, Spot, spotOf, moves, applied, bare, replay}
+use Rattle.scene.specs.Steps.{Scene}
 use Rattle.scene.specs.declared.Entry.{Entry}
-use Rattle.scene.specs.declared.Place.the-variants.{Last, Strip}
-use Rattle.scene.specs.declared.Step.{Step}
-use Rattle.scene.specs.declared.Step.the-variants.{Draw, Hide}
 use Rattle.replay.specs.declared.Size.{Size}
-use Rattle.replay.specs.declared.Spot as session
-use Rattle.replay.specs.Replay.{IsAt, sceneAfter}
-use Rattle.replay.specs.Tables.{cellOf, roomOfTables}
+use Rattle.replay.specs.declared.Spot as code
+use Rattle.replay.specs.Places.{placesIn, sceneIn, IsAt}
+use Rattle.replay.specs.Tables.{cellOf}
 use Rattle.replay.proofs.TablesLaws.{cell-row}
 use Rattle.climb.specs.Objects.{Objects}
 use Rattle.climb.specs.Climb.{stateOf, lets, isOpen}
@@ -29,110 +25,42 @@ use Rattle.point.specs.Objects.{cdhdByte, objectsOf}
 use Rattle.point.specs.Point.{left, top, spans, holds, hit, lowest, objectAt}
 use Rattle.point.specs.Tables.{holdsIn, hitIn}
 
--- the last place of an object after a history
-abbrev after : Room → List Step → ℕ → Spot
-after room h o = replay room (bare room) h .last o
-
--- ---- an object that no strip position set is at home
-
-module _ (room : Room) where
-  home-step : (sc : Scene) (st : Step) → ((o : ℕ) → sc .last o .set ≡ false → sc .last o ≡ bare room .last o)
-      → (o : ℕ) → moves sc st o .set ≡ false → moves sc st o ≡ bare room .last o
-  unfolding moves spotOf
-  home-step sc (Hide q) h o = h o
-  home-step sc (Draw q s Last) h o = go (eqb o q) refl
-    where
-      go : (t : Bool) → eqb o q ≡ t → cond t (sc .last q) (sc .last o) .set ≡ false → cond t (sc .last q) (sc .last o) ≡ bare room .last o
-      go true k e = let same = eqb-true o q k in h q e ∙ ap (λ (x : ℕ). bare room .last x) (sym same)
-      go false k e = h o e
-  home-step sc (Draw q s (Strip a b)) h o = go (eqb o q)
-    where
-      at : Spot
-      at = record { x = 8 * a; y = 8 * b; set = true }
-
-      go : (t : Bool) → cond t at (sc .last o) .set ≡ false → cond t at (sc .last o) ≡ bare room .last o
-      go true e = absurd (false≢true (sym e))
-      go false e = h o e
-
-  pub at-home : (h : List Step) (o : ℕ) → after room h o .set ≡ false → after room h o ≡ bare room .last o
-  unfolding replay applied
-  at-home [] o e = refl
-  at-home (st ∷ h) o e = home-step (replay room (bare room) h) st (at-home h) o e
-
--- ---- a strip position is the same in every room
-
-abbrev Same : Spot → Spot → Type 0
-Same p q = (p .set ≡ q .set) × (p .set ≡ true → p ≡ q)
-
-module _ (A B : Room) where
-  same-step : (a b : Scene) (st : Step) → ((o : ℕ) → Same (a .last o) (b .last o)) → (o : ℕ) → Same (moves a st o) (moves b st o)
-  unfolding moves spotOf
-  same-step a b (Hide q) h o = h o
-  same-step a b (Draw q s Last) h o = go (eqb o q)
-    where
-      go : (t : Bool) → Same (cond t (a .last q) (a .last o)) (cond t (b .last q) (b .last o))
-      go true = h q
-      go false = h o
-  same-step a b (Draw q s (Strip i j)) h o = go (eqb o q)
-    where
-      at : Spot
-      at = record { x = 8 * i; y = 8 * j; set = true }
-
-      go : (t : Bool) → Same (cond t at (a .last o)) (cond t at (b .last o))
-      go true = (refl, λ e. refl)
-      go false = h o
-
-  pub same-after : (h : List Step) (o : ℕ) → Same (after A h o) (after B h o)
-  unfolding replay applied bare
-  same-after [] o = (refl, λ e. absurd (false≢true e))
-  same-after (st ∷ h) o = same-step (replay A (bare A) h) (replay B (bare B) h) st (same-after h) o
-
 -- ---- the box as the code finds it
 
-module _ (t : List ℕ) (size : Size) (h : List Step) (x y o : ℕ) (one : 1 ≤ o) (le : o ≤ size .count) where
-  abbrev T : Room
-  T = roomOfTables t [] size
-
+module _ (t places : List ℕ) (size : Size) (o : ℕ) (one : 1 ≤ o) (le : o ≤ size .count) where
   row : (k : ℕ) → getD t (8 * o + k) 0 ≡ cellOf t (size .count) o k
   row k = cell-row t (size .count) o k (λ e. omega arith) le
 
-  place-x : after T h o .x ≡ left (boxesOf t (size .count)) (sceneAfter T h []) o
-  unfolding left bare roomOfTables
-  place-x = go (after T h o .set) refl
-    where
-      go : (b : Bool) → after T h o .set ≡ b → after T h o .x ≡ cond b (after T h o .x) (getD t (8 * o + 1) 0)
-      go true e = refl
-      go false e = ap (λ (p : Spot). p .x) (at-home T h o e) ∙ sym (row 1)
+  pub box-set : (at : code.Spot) → IsAt at (placesIn places o) → at .set ≡ true
+      → (at .x ≡ left (boxesOf t (size .count)) (sceneIn places []) o) × (at .y ≡ top (boxesOf t (size .count)) (sceneIn places []) o)
+  unfolding left top
+  box-set at is e = let s = sym (is .set) ∙ e in (is .x ∙ rw s, is .y ∙ rw s)
 
-  place-y : after T h o .y ≡ top (boxesOf t (size .count)) (sceneAfter T h []) o
-  unfolding top bare roomOfTables
-  place-y = go (after T h o .set) refl
-    where
-      go : (b : Bool) → after T h o .set ≡ b → after T h o .y ≡ cond b (after T h o .y) (getD t (8 * o + 2) 0)
-      go true e = refl
-      go false e = ap (λ (p : Spot). p .y) (at-home T h o e) ∙ sym (row 2)
+  pub box-home : (at : code.Spot) → IsAt at (placesIn places o) → at .set ≡ false → (x y : ℕ) → x ≡ cellOf t (size .count) o 1
+      → y ≡ cellOf t (size .count) o 2
+      → (x ≡ left (boxesOf t (size .count)) (sceneIn places []) o) × (y ≡ top (boxesOf t (size .count)) (sceneIn places []) o)
+  unfolding left top
+  box-home at is e x y f g = let s = sym (is .set) ∙ e in (rw s (f ∙ sym (row 1)), rw s (g ∙ sym (row 2)))
 
-  pub holds-told : (at : session.Spot) (w d : ℕ) → IsAt at (after T h o) → w ≡ cellOf t (size .count) o 3 → d ≡ cellOf t (size .count) o 4
-      → (spans (at .x) w x && spans (at .y) d y) ≡ holdsIn t size h x y o
+  pub holds-told : (x y : ℕ) (at : code.Spot) (w d : ℕ) → at .x ≡ left (boxesOf t (size .count)) (sceneIn places []) o
+      → at .y ≡ top (boxesOf t (size .count)) (sceneIn places []) o → w ≡ cellOf t (size .count) o 3 → d ≡ cellOf t (size .count) o 4
+      → (spans (at .x) w x && spans (at .y) d y) ≡ holdsIn t places size x y o
   unfolding holds
-  holds-told at w d is e f =
-      let a = is .x ∙ place-x in
-      let b = is .y ∙ place-y in
-      (λ i. spans (a i) ((e ∙ sym (row 3)) i) x && spans (b i) ((f ∙ sym (row 4)) i) y)
+  holds-told x y at w d a b e f = λ i. spans (a i) ((e ∙ sym (row 3)) i) x && spans (b i) ((f ∙ sym (row 4)) i) y
 
 -- ---- the hit test, test by test
 
-module _ (t states : List ℕ) (size : Size) (h : List Step) (flags : List ℕ) (x y o : ℕ) (b : Bool) (held : b ≡ holdsIn t size h x y o) where
-  pub hit-beside : not b ≡ true → false ≡ hitIn t states size h flags x y o
+module _ (t states places : List ℕ) (size : Size) (flags : List ℕ) (x y o : ℕ) (b : Bool) (held : b ≡ holdsIn t places size x y o) where
+  pub hit-beside : not b ≡ true → false ≡ hitIn t states places size flags x y o
   unfolding hitIn
   hit-beside f = rw (← held, not-true b f)
 
   module _ (in-box : not b ≡ false) where
-    pub hit-flagged : (getD flags (o - 1) 0 ≡ 0 → ⊥) → false ≡ hitIn t states size h flags x y o
+    pub hit-flagged : (getD flags (o - 1) 0 ≡ 0 → ⊥) → false ≡ hitIn t states places size flags x y o
     unfolding hitIn
     hit-flagged f = rw (← held, not-false b in-box, ne-eqb (getD flags (o - 1) 0) 0 f)
 
-    pub hit-chain : getD flags (o - 1) 0 ≡ 0 → isOpen (boxesOf t (size .count)) (stateIn states) (size .count) o ≡ hitIn t states size h flags x y o
+    pub hit-chain : getD flags (o - 1) 0 ≡ 0 → isOpen (boxesOf t (size .count)) (stateIn states) (size .count) o ≡ hitIn t states places size flags x y o
     unfolding hitIn
     hit-chain e = rw (← held, not-false b in-box, eq-eqb (getD flags (o - 1) 0) 0 e)
 
@@ -213,47 +141,34 @@ module _ (s t₀ t : List ℕ) (filled : Filled s (objectRow true s) t₀ t) (si
         go again true e = refl
         go again false e = on again (leb (B .parent o) (size .count)) refl (λ z. false≢true (sym e ∙ eq-eqb (B .parent o) 0 z))
 
-    module _ (room : Room) (h : List Step) (flags : List ℕ) (x y : ℕ) where
+    module _ (places flags : List ℕ) (x y : ℕ) where
       abbrev sc : Scene
-      sc = sceneAfter room h es
+      sc = sceneIn places es
 
       abbrev scT : Scene
-      scT = sceneAfter (roomOfTables t [] size) h []
+      scT = sceneIn places []
 
       module _ (o : ℕ) (one : 1 ≤ o) (le : o ≤ size .count) where
-        both : Same (after room h o) (after (roomOfTables t [] size) h o)
-        both = same-after room (roomOfTables t [] size) h o
-
         left-is : left S sc o ≡ left B scT o
         unfolding left
-        left-is = go (after room h o .set) refl
-          where
-            go : (b : Bool) → after room h o .set ≡ b → cond b (after room h o .x) (S .x o) ≡ cond (after (roomOfTables t [] size) h o .set)
-                (after (roomOfTables t [] size) h o .x) (B .x o)
-            go true e = rw (← (sym e ∙ both .0)) (ap (λ (p : Spot). p .x) (both .1 e))
-            go false e = rw (← (sym e ∙ both .0)) (x-is o one le)
+        left-is = ap (λ (k : ℕ). cond (placesIn places o .set) (placesIn places o .x) k) (x-is o one le)
 
         top-is : top S sc o ≡ top B scT o
         unfolding top
-        top-is = go (after room h o .set) refl
-          where
-            go : (b : Bool) → after room h o .set ≡ b → cond b (after room h o .y) (S .y o) ≡ cond (after (roomOfTables t [] size) h o .set)
-                (after (roomOfTables t [] size) h o .y) (B .y o)
-            go true e = rw (← (sym e ∙ both .0)) (ap (λ (p : Spot). p .y) (both .1 e))
-            go false e = rw (← (sym e ∙ both .0)) (y-is o one le)
+        top-is = ap (λ (k : ℕ). cond (placesIn places o .set) (placesIn places o .y) k) (y-is o one le)
 
         holds-same : holds S sc x y o ≡ holds B scT x y o
         unfolding holds
         holds-same = λ i. spans (left-is i) (width-is o one le i) x && spans (top-is i) (height-is o one le i) y
 
-        hit-same : hit S sc flags x y o ≡ hitIn t states size h flags x y o
+        hit-same : hit S sc flags x y o ≡ hitIn t states places size flags x y o
         unfolding hit hitIn
         hit-same =
             (λ i. holds-same i && eqb (getD flags (o - 1) 0) 0 && isOpen S (stateOf es) (count-is i) o)
             ∙ ap (λ (b : Bool). holds B scT x y o && eqb (getD flags (o - 1) 0) 0 && b) (climb-same (size .count) o one le)
 
-      pub object-told : objectAt S sc flags x y ≡ lowest (hitIn t states size h flags x y) 1 (size .count)
+      pub object-told : objectAt S sc flags x y ≡ lowest (hitIn t states places size flags x y) 1 (size .count)
       unfolding objectAt
       object-told =
           ap (lowest (hit S sc flags x y) 1) count-is
-          ∙ lowest-same (hit S sc flags x y) (hitIn t states size h flags x y) (size .count) 1 (λ o a b. hit-same o a (omega arith))
+          ∙ lowest-same (hit S sc flags x y) (hitIn t states places size flags x y) (size .count) 1 (λ o a b. hit-same o a (omega arith))

@@ -11,6 +11,7 @@ use Rattle.room.specs.declared.Tested.{Tested}
 use Rattle.room.specs.declared.Tested.the-variants as tested
 use Rattle.scene.specs.Session.{rightFor, sceneOf}
 use Rattle.stored.specs.Bytes.{sessionOf}
+use Rattle.stored.specs.Layout.{sessionSize}
 use Rattle.layers.specs.Decoded.{decoded}
 use Rattle.point.specs.Objects.{objectsOf}
 use Rattle.point.specs.Point.{objectAt}
@@ -37,17 +38,18 @@ abbrev pub askedIf : List ℕ → (session flags : List ℕ) → (x y : ℕ) →
 askedIf s session flags x y (tested.Right r) = asked s r session flags x y
 askedIf s session flags x y (tested.Refused n) = Refused n
 
--- a session of 450 bytes and a flag byte per object are what 4 asks for
+-- a session of its size and a flag byte per object are what 4 asks for
 unfoldable pub pointedAt : (room session flags : List ℕ) → (x y : ℕ) → Pointed
-pointedAt s session flags x y = askedIf s session flags x y (roomTest (withFlags 450 (length session) (length flags)) s)
+pointedAt s session flags x y = askedIf s session flags x y (roomTest (withFlags sessionSize (length session) (length flags)) s)
 
--- document 01's number for each case of an answer, and its object
+-- document 01's number for each case of an answer
 abbrev pub number : Pointed → ℕ
 number (Object o) = 0
 number Nothing = 0
 number (Refused n) = n
 
-abbrev pub object : Pointed → ℕ
-object (Object o) = o
-object Nothing = 0
-object (Refused n) = 0
+-- and its value: the object's number, 0 for no object
+abbrev pub value : Pointed → ℕ
+value (Object o) = o
+value Nothing = 0
+value (Refused n) = 0

@@ -1,4 +1,4 @@
--- Laws of a replay: every shown entry stands at its object's last place and is of an image that is there; no history of more than 64
+-- Laws of a replay from a scene: every shown entry stands at its object's last place and is of an image that is there; no history of more than 64
 -- steps replays. Assumes nothing.
 use Prim.Native.Nat.{ℕ, suc, _<_, _≤_}
 use mathlib.Core.Path.{_≡_, refl, sym, ap, ap₂, _∙_}
@@ -14,18 +14,19 @@ use Rattle.scene.specs.declared.Place.{Place}
 use Rattle.scene.specs.declared.Step.{Step}
 use Rattle.scene.specs.declared.Step.the-variants.{Draw, Hide}
 use Rattle.scene.specs.Painting.{Room}
-use Rattle.scene.specs.Steps.{Scene, Spot, some, without, entryOf, sameBox, clash, removes, adds, moves, applied, allowed, refusal, bare, replay, replays}
+use Rattle.scene.specs.Steps.{Scene, Spot, some, without, entryOf, sameBox, clash, removes, adds, moves, applied, allowed, refusal, replay, replays}
+use Rattle.scene.specs.Steps.{mostSteps}
 use Rattle.scene.specs.Session.{sameEntry, sameList, rightFor, sceneOf}
 use Rattle.scene.proofs.Reading.{right-means}
 use Rattle.stored.specs.Bytes.{All, Mark, mark, placed, allPlaced, isMark, sameMarks, marksFrom, stepsOf, sessionOf}
 use Rattle.stored.proofs.Lists.{all-append, all-without}
+use Rattle.replay.specs.Replay.{groundOf}
 use Rattle.replay.proofs.Lists.{append-nil}
+use Rattle.replay.proofs.GroundLaws.{Standing, There, Ground, ground-there, session-ground}
 use Rattle.stored.proofs.BytesLaws.{marksOf}
+use Rattle.stored.specs.Layout.{shownFrom}
 
 -- ---- places
-
-abbrev pub Standing : (ℕ → Spot) → Entry → Type 0
-Standing last e = (e .x ≡ last (e .object) .x) × (e .y ≡ last (e .object) .y)
 
 -- an entry of another object stays where it is
 stands-on : (sc : Scene) (o s : ℕ) (p : Place) (e : Entry) → eqb (e .object) o ≡ false → Standing (sc .last) e → Standing (moves sc (Draw o s p)) e
@@ -51,10 +52,11 @@ module _ (room : Room) where
       hide-stands : (sc : Scene) (o : ℕ) (e : Entry) → Standing (sc .last) e → Standing (moves sc (Hide o)) e
       hide-stands sc o e b = b
 
-  pub all-stand : (h : List Step) → All (Standing (replay room (bare room) h .last)) (replay room (bare room) h .shown)
-  unfolding replay bare
-  all-stand [] = tt
-  all-stand (st ∷ h) = applied-stands (replay room (bare room) h) st (all-stand h)
+  module _ (g : Scene) (G : Ground room g) where
+    pub all-stand : (h : List Step) → All (Standing (replay room g h .last)) (replay room g h .shown)
+    unfolding replay
+    all-stand [] = G .stand
+    all-stand (st ∷ h) = applied-stands (replay room g h) st (all-stand h)
 
 -- the marks of entries that stand at their objects' last places say the whole entries
 mark-entry : (last : ℕ → Spot) (o s : ℕ) (e : Entry) → Standing last e → isMark (mark o s) e ≡ sameEntry (placed last (mark o s)) e
@@ -96,21 +98,21 @@ then true n k e = (refl, e)
 then false n k e = absurd (never n e)
 
 module _ (room : Room) where
-  pub accepted-few : (n : ℕ) (sc : Scene) (st : Step) → refusal room n sc st ≡ 0 → n < 64
+  pub accepted-few : (n : ℕ) (sc : Scene) (st : Step) → refusal room n sc st ≡ 0 → n < mostSteps
   unfolding refusal
-  accepted-few n sc (Draw o s p) e = leb-false 64 n (not-ten (leb 64 n) _ e .0)
-  accepted-few n sc (Hide o) e = leb-false 64 n (not-ten (leb 64 n) _ e .0)
+  accepted-few n sc (Draw o s p) e = leb-false mostSteps n (not-ten (leb mostSteps n) _ e .0)
+  accepted-few n sc (Hide o) e = leb-false mostSteps n (not-ten (leb mostSteps n) _ e .0)
 
   pub accepted-draw : (n : ℕ) (sc : Scene) (o s : ℕ) (p : Place) → refusal room n sc (Draw o s p) ≡ 0
       → (room .drawable o s ≡ true) × (allowed room (entryOf sc o s p) ≡ true)
   unfolding refusal
   accepted-draw n sc o s p e =
-      let a = then (room .drawable o s) 10 _ (not-ten (leb 64 n) _ e .1) in
+      let a = then (room .drawable o s) 10 _ (not-ten (leb mostSteps n) _ e .1) in
       (a .0, then (allowed room (entryOf sc o s p)) 11 _ (a .1) .0)
 
   pub accepted-hide : (n : ℕ) (sc : Scene) (o : ℕ) → refusal room n sc (Hide o) ≡ 0 → some (λ e. eqb (e .object) o) (sc .shown) ≡ true
   unfolding refusal
-  accepted-hide n sc o e = go (some (λ e. eqb (e .object) o) (sc .shown)) (not-ten (leb 64 n) _ e .1)
+  accepted-hide n sc o e = go (some (λ e. eqb (e .object) o) (sc .shown)) (not-ten (leb mostSteps n) _ e .1)
     where
       go : (t : Bool) → _≡_ {A = ℕ} (cond t 0 11) 0 → t ≡ true
       go true q = refl
@@ -118,53 +120,54 @@ module _ (room : Room) where
 
   -- ---- a history that replays
 
-  pub replays-older : (st : Step) (h : List Step) → replays room (bare room) (st ∷ h) ≡ true
-      → (replays room (bare room) h ≡ true) × (refusal room (length h) (replay room (bare room) h) st ≡ 0)
-  unfolding replays
-  replays-older st h e =
-      let a = both (replays room (bare room) h) (eqb (refusal room (length h) (replay room (bare room) h) st) 0) e in
-      (a .0, eqb-true (refusal room (length h) (replay room (bare room) h) st) 0 (a .1))
+  module _ (g : Scene) where
+    pub replays-older : (st : Step) (h : List Step) → replays room g (st ∷ h) ≡ true
+        → (replays room g h ≡ true) × (refusal room (length h) (replay room g h) st ≡ 0)
+    unfolding replays
+    replays-older st h e =
+        let a = both (replays room g h) (eqb (refusal room (length h) (replay room g h) st) 0) e in
+        (a .0, eqb-true (refusal room (length h) (replay room g h) st) 0 (a .1))
 
-  pub replays-few : (h : List Step) → replays room (bare room) h ≡ true → length h ≤ 64
-  replays-few [] e = omega arith
-  replays-few (st ∷ h) e = accepted-few (length h) (replay room (bare room) h) st (replays-older st h e .1)
+    pub replays-few : (h : List Step) → replays room g h ≡ true → length h ≤ mostSteps
+    replays-few [] e = omega arith
+    replays-few (st ∷ h) e = accepted-few (length h) (replay room g h) st (replays-older st h e .1)
 
   -- every shown entry is of an image that is there
-  abbrev pub There : Entry → Type 0
-  There e = room .drawable (e .object) (e .state) ≡ true
-
-  pub applied-there : (n : ℕ) (sc : Scene) (st : Step) → refusal room n sc st ≡ 0 → All There (sc .shown) → All There (applied room sc st .shown)
+  pub applied-there : (n : ℕ) (sc : Scene) (st : Step) → refusal room n sc st ≡ 0 → All (There room) (sc .shown)
+      → All (There room) (applied room sc st .shown)
   unfolding applied adds entryOf
   applied-there n sc (Draw o s p) e a =
-      all-append There (without (removes room sc (Draw o s p)) (sc .shown)) (entryOf sc o s p)
-      (all-without There There (removes room sc (Draw o s p)) (sc .shown) (λ f q b. b) a) (accepted-draw n sc o s p e .0)
+      all-append (There room) (without (removes room sc (Draw o s p)) (sc .shown)) (entryOf sc o s p)
+      (all-without (There room) (There room) (removes room sc (Draw o s p)) (sc .shown) (λ f q b. b) a) (accepted-draw n sc o s p e .0)
   applied-there n sc (Hide o) e a =
       rw (append-nil (without (removes room sc (Hide o)) (sc .shown)))
-      (all-without There There (removes room sc (Hide o)) (sc .shown) (λ f q b. b) a)
+      (all-without (There room) (There room) (removes room sc (Hide o)) (sc .shown) (λ f q b. b) a)
 
-  pub all-there : (h : List Step) → replays room (bare room) h ≡ true → All There (replay room (bare room) h .shown)
-  unfolding replay bare
-  all-there [] e = tt
-  all-there (st ∷ h) e =
-      let a = replays-older st h e in
-      applied-there (length h) (replay room (bare room) h) st (a .1) (all-there h (a .0))
+  module _ (g : Scene) (G : Ground room g) where
+    pub all-there : (h : List Step) → replays room g h ≡ true → All (There room) (replay room g h .shown)
+    unfolding replay
+    all-there [] e = ground-there room g G
+    all-there (st ∷ h) e =
+        let a = replays-older g st h e in
+        applied-there (length h) (replay room g h) st (a .1) (all-there h (a .0))
 
   -- ---- the session that bytes hold
 
   pub right-is : (l : List ℕ)
       → rightFor room (sessionOf room l)
-      ≡ (replays room (bare room) (stepsOf l) && sameMarks (marksFrom l 0 (getD l 1 0)) (replay room (bare room) (stepsOf l) .shown))
+      ≡ (replays room (groundOf room l) (stepsOf l) && sameMarks (marksFrom l shownFrom 0 (getD l 1 0)) (replay room (groundOf room l) (stepsOf l) .shown))
   unfolding rightFor sessionOf
   right-is l =
-      ap (λ (b : Bool). replays room (bare room) (stepsOf l) && b)
-      (sym (same-placed (replay room (bare room) (stepsOf l) .last) (marksFrom l 0 (getD l 1 0)) (replay room (bare room) (stepsOf l) .shown)
-      (all-stand room (stepsOf l))))
+      ap (λ (b : Bool). replays room (groundOf room l) (stepsOf l) && b)
+      (sym (same-placed (replay room (groundOf room l) (stepsOf l) .last) (marksFrom l shownFrom 0 (getD l 1 0))
+      (replay room (groundOf room l) (stepsOf l) .shown)
+      (all-stand room (groundOf room l) (session-ground room l) (stepsOf l))))
 
   pub right-shown : (l : List ℕ) → rightFor room (sessionOf room l) ≡ true
-      → (replays room (bare room) (stepsOf l) ≡ true) × (sessionOf room l .shown ≡ replay room (bare room) (stepsOf l) .shown)
+      → (replays room (groundOf room l) (stepsOf l) ≡ true) × (sessionOf room l .shown ≡ replay room (groundOf room l) (stepsOf l) .shown)
   unfolding sessionOf
   right-shown l e = right-means room (sessionOf room l) e
 
-  pub right-scene : (l : List ℕ) → rightFor room (sessionOf room l) ≡ true → sceneOf room (sessionOf room l) ≡ replay room (bare room) (stepsOf l)
+  pub right-scene : (l : List ℕ) → rightFor room (sessionOf room l) ≡ true → sceneOf room (sessionOf room l) ≡ replay room (groundOf room l) (stepsOf l)
   unfolding sceneOf sessionOf
-  right-scene l e = λ i. record { shown = right-shown l e .1 i; last = replay room (bare room) (stepsOf l) .last }
+  right-scene l e = λ i. record { shown = right-shown l e .1 i; last = replay room (groundOf room l) (stepsOf l) .last }

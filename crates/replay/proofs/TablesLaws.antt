@@ -4,20 +4,23 @@ use Prim.Native.Nat.{ℕ, _+_, _*_, _%_, _<_, _≤_}
 use mathlib.Core.Path.{_≡_, refl, ap, ap₂, _∙_}
 use mathlib.Core.Bool.{Bool, true, false, cond, not, _&&_, _||_}
 use mathlib.Core.List.{List, [], _∷_, _++_}
-use lib.Dec.{eqb, leb, ltb}
+use lib.Dec.{eqb, leb}
 use lib.ListN.{getD, length}
 use native.Mathlib.Omega.{arith}
-use borrow.Author.Tests.{eq-eqb, ne-eqb, le-leb, lt-leb, leb-true, ltb-true}
+use borrow.Author.Tests.{eq-eqb, ne-eqb, le-leb, lt-leb, lt-ltb, leb-true}
 use Rattle.number.proofs.BoolLaws.{or-left, or-right}
 use Rattle.scene.specs.declared.Entry.{Entry}
 use Rattle.scene.specs.declared.Step.{Step}
 use Rattle.scene.specs.declared.Step.the-variants.{Draw, Hide}
 use Rattle.scene.specs.Painting.{Room, covers}
 use Rattle.scene.specs.Steps.{Scene, some, only, without, entryOf, sameBox, clash, removes, adds, moves, applied, touches, allowed, refusal, bare, replay}
+use Rattle.scene.specs.Steps.{mostSteps}
 use Rattle.scene.specs.Steps.{replays}
+use Rattle.scene.proofs.Allowed.{Allowed, allowed-means, allowed-same}
 use Rattle.replay.specs.declared.Size.{Size}
 use Rattle.replay.specs.Tables.{cellOf, verdictOf, roomOfTables, Sizes, draws, names, sized, TablesAgree}
-use Rattle.replay.specs.Replay.{no, ok, judged}
+use Rattle.stored.specs.Bytes.{sessionOf}
+use Rattle.replay.specs.Replay.{no, ok, judged, groundOf}
 
 -- ---- cells
 
@@ -68,17 +71,6 @@ module _ (l : List ℕ) (n o s : ℕ) where
       go false true false false p q g = absurd (g refl)
       go false true false true p q g = (leb-true o n p, leb-true s 9 q)
 
--- ---- Bools
-
-six : (a b c d e f : Bool) → (a && b && c && d && e && f) ≡ true
-    → (a ≡ true) × (b ≡ true) × (c ≡ true) × (d ≡ true) × (e ≡ true) × (f ≡ true)
-six true true true true true f h = (refl, refl, refl, refl, refl, h)
-six true true true true false f h = (cc, cc, cc, cc, cc, cc)
-six true true true false e f h = (cc, cc, cc, cc, cc, cc)
-six true true false d e f h = (cc, cc, cc, cc, cc, cc)
-six true false c d e f h = (cc, cc, cc, cc, cc, cc)
-six false b c d e f h = (cc, cc, cc, cc, cc, cc)
-
 -- an allowed place is in the room, and the image's size is allowed
 module _ (room : Room) (e : Entry) (h : allowed room e ≡ true) where
   abbrev w : ℕ
@@ -87,16 +79,14 @@ module _ (room : Room) (e : Entry) (h : allowed room e ≡ true) where
   abbrev t : ℕ
   t = room .tall (e .object)
 
-  parts : (eqb (e .x % 8) 0 ≡ true) × (eqb (w % 8) 0 ≡ true) × (ltb 0 w ≡ true) × (ltb 0 t ≡ true)
-      × (leb (e .x + w) (8 * room .strips) ≡ true) × (leb (e .y + t) (room .height) ≡ true)
-  unfolding allowed
-  parts = six (eqb (e .x % 8) 0) (eqb (w % 8) 0) (ltb 0 w) (ltb 0 t) (leb (e .x + w) (8 * room .strips)) (leb (e .y + t) (room .height)) h
+  parts : Allowed room e
+  parts = allowed-means room e .0 h
 
   pub allowed-right : (e .x + w ≤ 8 * room .strips) × (0 < w)
-  allowed-right = (leb-true (e .x + w) (8 * room .strips) (parts .4), ltb-true 0 w (parts .2))
+  allowed-right = (parts .inside .0, parts .sized .0)
 
   pub allowed-below : (e .y + t ≤ room .height) × (0 < t)
-  allowed-below = (leb-true (e .y + t) (room .height) (parts .5), ltb-true 0 t (parts .3))
+  allowed-below = (parts .inside .1, parts .sized .1)
 
   allowed-sized : sized room (e .object) ≡ true
   unfolding sized
@@ -105,7 +95,7 @@ module _ (room : Room) (e : Entry) (h : allowed room e ≡ true) where
       let b = allowed-below in
       let wl : w ≤ 8 * room .strips = omega arith in
       let tl : t ≤ room .height = omega arith in
-      rw (parts .1, parts .2, parts .3, le-leb w (8 * room .strips) wl, le-leb t (room .height) tl)
+      rw (eq-eqb (w % 8) 0 (parts .aligned .1), lt-ltb 0 w (r .1), lt-ltb 0 t (b .1), le-leb w (8 * room .strips) wl, le-leb t (room .height) tl)
 
 -- a place that a table's image is allowed at: 128 strips and 200 rows at most
 pub allowed-bounds : (objects v : List ℕ) (size : Size) (e : Entry) → Sizes size → allowed (roomOfTables objects v size) e ≡ true → (e .x < 1024) × (e .y < 200)
@@ -170,14 +160,9 @@ module _ (room : Room) (objects verdicts : List ℕ) (size : Size) where
     unfolding touches
     touches-same sc st s = λ i. some (λ e. covers-same e s i) (only (λ e. removes-same sc st e i) (sc .shown) ++ adds-same sc st i)
 
-    pub replay-same : (h : List Step) → replay room (bare room) h ≡ replay T (bare T) h
-    unfolding replay
-    replay-same [] = bare-same
-    replay-same (st ∷ h) = ap (λ (sc : Scene). applied room sc st) (replay-same h) ∙ applied-same (replay T (bare T) h) st
-
-    allowed-same : (e : Entry) → allowed room e ≡ allowed T e
-    unfolding allowed roomOfTables
-    allowed-same e = rw (K .width (e .object), K .tall (e .object), K .strips, K .height)
+    allowed-known : (e : Entry) → allowed room e ≡ allowed T e
+    unfolding roomOfTables
+    allowed-known e = allowed-same room T e (K .width (e .object)) (K .tall (e .object)) (K .strips) (K .height)
 
     -- the refusal of a step whose verdict is known
     refusal-same : (n : ℕ) (sc : Scene) (st : Step) → ((o s : ℕ) → draws st o s ≡ true → names steps o s ≡ true)
@@ -186,9 +171,9 @@ module _ (room : Room) (objects verdicts : List ℕ) (size : Size) where
     refusal-same n sc (Draw o s p) known =
         let k = known o s (own-draw o s) in
         let e = entryOf sc o s p in
-        ap (λ (m : ℕ). cond (leb 64 n) 10 m)
+        ap (λ (m : ℕ). cond (leb mostSteps n) 10 m)
         (draw-cases (room .drawable o s) (T .drawable o s) (allowed room e) (allowed T e) (room .fault o s) (T .fault o s)
-        (drawable-same o s k) (allowed-same e) (λ d a. fault-same o s k d (allowed-sized room e a)))
+        (drawable-same o s k) (allowed-known e) (λ d a. fault-same o s k d (allowed-sized room e a)))
     refusal-same n sc (Hide o) known = refl
 
     pub judged-same : (n : ℕ) (sc : Scene) (st : Step) → ((o s : ℕ) → draws st o s ≡ true → names steps o s ≡ true)
@@ -197,13 +182,24 @@ module _ (room : Room) (objects verdicts : List ℕ) (size : Size) where
     judged-same n sc st k =
         λ i. cond (eqb (refusal-same n sc st k i) 0) (ok (applied-same sc st i .shown)) (no (refusal-same n sc st k i))
 
-    pub replays-same : (h : List Step) → ((o s : ℕ) → names h o s ≡ true → names steps o s ≡ true)
-        → replays room (bare room) h ≡ replays T (bare T) h
-    unfolding replays names
-    replays-same [] k = refl
-    replays-same (st ∷ h) k =
-        ap₂ _&&_
-        (replays-same h (λ o s n. k o s (or-right (draws st o s) (names h o s) n)))
-        (ap (λ (m : ℕ). eqb m 0)
-        (ap (λ (sc : Scene). refusal room (length h) sc st) (replay-same h)
-        ∙ refusal-same (length h) (replay T (bare T) h) st (λ o s n. k o s (or-left (draws st o s) (names h o s) n))))
+    -- a replay from one scene
+    module _ (g g′ : Scene) (is : g ≡ g′) where
+      pub replay-from : (h : List Step) → replay room g h ≡ replay T g′ h
+      unfolding replay
+      replay-from [] = is
+      replay-from (st ∷ h) = ap (λ (sc : Scene). applied room sc st) (replay-from h) ∙ applied-same (replay T g′ h) st
+
+      pub replays-from : (h : List Step) → ((o s : ℕ) → names h o s ≡ true → names steps o s ≡ true) → replays room g h ≡ replays T g′ h
+      unfolding replays names
+      replays-from [] k = refl
+      replays-from (st ∷ h) k =
+          ap₂ _&&_
+          (replays-from h (λ o s n. k o s (or-right (draws st o s) (names h o s) n)))
+          (ap (λ (m : ℕ). eqb m 0)
+          (ap (λ (sc : Scene). refusal room (length h) sc st) (replay-from h)
+          ∙ refusal-same (length h) (replay T g′ h) st (λ o s n. k o s (or-left (draws st o s) (names h o s) n))))
+
+    -- a stored session's ground is the same in both
+    pub ground-same : (l : List ℕ) → groundOf room l ≡ groundOf T l
+    unfolding sessionOf
+    ground-same l = bare-same

@@ -1,5 +1,6 @@
 -- The numbers that a caller has gathered of a room's objects, and the room that they tell (document 01, "Sessions"): a row of 8 numbers
 -- for each object (id, x, y, width, height, number of images, two more), and a byte for each object and state. Assumes nothing.
+-- For the proofs: no public promise rests on what this page says.
 use Prim.Native.Nat.{ℕ, _+_, _*_, _%_, _≤_}
 use mathlib.Core.Path.{_≡_}
 use mathlib.Core.Bool.{Bool, true, false, cond, not, _&&_, _||_}
@@ -11,7 +12,18 @@ use Rattle.scene.specs.declared.Call.the-variants.{Make, TakeBack}
 use Rattle.scene.specs.declared.Step.{Step}
 use Rattle.scene.specs.declared.Step.the-variants.{Draw, Hide}
 use Rattle.scene.specs.Painting.{Room}
+use Rattle.stored.specs.Layout.{sessionSize}
 use Rattle.replay.specs.declared.Size.{Size}
+
+-- the lengths of the tables, for objects 0 to 128: of each object a row of 8 numbers, 10 bytes of verdicts, and a last place in 3 numbers
+abbrev pub objectsLength : ℕ
+objectsLength = 1032
+
+abbrev pub verdictsLength : ℕ
+verdictsLength = 1290
+
+abbrev pub placesLength : ℕ
+placesLength = 387
 
 -- number k of object o's row; 0 for an object that is not there
 unfoldable pub cellOf : List ℕ → ℕ → ℕ → ℕ → ℕ
@@ -48,7 +60,7 @@ Sizes size = (size .strips ≤ 128) × (size .height ≤ 200) × (size .count �
 
 -- what is asked of lent bytes and gathered numbers before a session is read by them
 abbrev pub LongEnough : (session objects verdicts : List ℕ) → Size → Type 0
-LongEnough session objects verdicts size = (450 ≤ length session) × (1032 ≤ length objects) × (1290 ≤ length verdicts) × Sizes size
+LongEnough session objects verdicts size = (sessionSize ≤ length session) × (objectsLength ≤ length objects) × (verdictsLength ≤ length verdicts) × Sizes size
 
 -- a step draws the object o in the state s; a step of the list does
 unfoldable pub draws : Step → ℕ → ℕ → Bool

@@ -4,7 +4,7 @@ ghost use Prim.Native.Nat.{ℕ, _≤_, _<_};
 ghost use mathlib.Core.List.{List};
 ghost use lib.ListN.{length};
 ghost use Rattle.scene.specs.Steps.{allowed, sameBox};
-ghost use Rattle.replay.specs.Tables.{cellOf, verdictOf, roomOfTables, Sizes};
+ghost use Rattle.replay.specs.Tables.{cellOf, verdictOf, roomOfTables, Sizes, objectsLength, verdictsLength};
 use crate::Size;
 use crate::Spot;
 use number::wide_u32;
@@ -12,7 +12,7 @@ use scene::Entry;
 
 // Number `field` of an object's row, 0 for an object that is not there.
 pub fn cell(objects: &[u32], size: Size, object: u32, field: usize) -> usize
-    requires { ⌜ (1032 ≤ length (now objects)) × Sizes size × (field < 8) ⌝ }
+    requires { ⌜ (objectsLength ≤ length (now objects)) × Sizes size × (field < 8) ⌝ }
     ensures { λ r. ⌜ (r ≡ cellOf (now (objects .entry)) (size .count) object field) × (r < 4294967296) ⌝ }
 {
     if object == 0 {
@@ -27,7 +27,7 @@ pub fn cell(objects: &[u32], size: Size, object: u32, field: usize) -> usize
 
 // 11 for an image that is not there, else what testing the image gave.
 pub fn verdict(verdicts: &[u8], size: Size, object: u32, state: u32) -> u8
-    requires { ⌜ (1290 ≤ length (now verdicts)) × Sizes size ⌝ }
+    requires { ⌜ (verdictsLength ≤ length (now verdicts)) × Sizes size ⌝ }
     ensures { λ r. ⌜ r ≡ verdictOf (now (verdicts .entry)) (size .count) object state ⌝ }
 {
     if object == 0 {
@@ -48,7 +48,7 @@ pub fn verdict(verdicts: &[u8], size: Size, object: u32, state: u32) -> u8
 }
 
 pub fn same_box(objects: &[u32], size: Size, e: Entry, f: Entry) -> bool
-    requires { ⌜ (1032 ≤ length (now objects)) × Sizes size ⌝ }
+    requires { ⌜ (objectsLength ≤ length (now objects)) × Sizes size ⌝ }
     ensures { λ r. ⌜ ((v : List ℕ) → r ≡ sameBox (roomOfTables (now (objects .entry)) v size) e f) ⌝ }
 {
     let same_width = cell(objects, size, e.object, 3) == cell(objects, size, f.object, 3);
@@ -58,7 +58,7 @@ pub fn same_box(objects: &[u32], size: Size, e: Entry, f: Entry) -> bool
 
 // Refusal 12 is given unless this holds of the place that an object is drawn at.
 pub fn fits(objects: &[u32], size: Size, object: u32, at: Spot) -> bool
-    requires { ⌜ (1032 ≤ length (now objects)) × Sizes size × (at .x < 68719476736) × (at .y < 68719476736) ⌝ }
+    requires { ⌜ (objectsLength ≤ length (now objects)) × Sizes size × (at .x < 68719476736) × (at .y < 68719476736) ⌝ }
     ensures { λ r. ⌜ ((v : List ℕ) (s : ℕ) → r ≡ allowed (roomOfTables (now (objects .entry)) v size)
         (record { object = object; state = s; x = at .x; y = at .y })) ⌝ }
 {

@@ -1,6 +1,9 @@
 // The steps of a session and the entries of its shown list (document 01, "Sessions"). The crate holds the definitions of painting, steps
 // and sessions over a room that is decoded already, and demand 3 over every list of calls; see specs/ and proofs/Demand3.antt.
 
+// The most steps of a history (document 01, "Sizes").
+pub const MOST_STEPS: usize = 64;
+
 // Where a draw puts an object: where it last was, or at strip position (a, b), which is pixel (8a, 8b).
 pub enum Place {
     Last,

@@ -36,7 +36,7 @@ module _ (room : Room) (b : State) where
 
   -- the strips of its step rebuilt with the list that it leaves
   unmade-rebuilt : (h : List Step) → unmade room h b .number ≡ 0
-      → unmade room h b .after .surfaces ≡ rebuilt room (unmade room h b .after .session .shown) (newestTouches room h) (b .surfaces)
+      → unmade room h b .after .surfaces ≡ rebuilt room (unmade room h b .after .session .shown) (newestTouches room (b .session .ground) h) (b .surfaces)
   unfolding unmade newestTouches
   unmade-rebuilt [] e = absurd (let w : _≡_ {A = ℕ} 13 0 = e in omega arith)
   unmade-rebuilt (st ∷ h) e = refl

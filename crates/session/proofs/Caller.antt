@@ -14,18 +14,20 @@ use Rattle.scene.specs.declared.Entry.{Entry}
 use Rattle.scene.specs.declared.Step.{Step}
 use Rattle.scene.specs.declared.Step.the-variants.{Draw, Hide}
 use Rattle.scene.specs.Painting.{Room, Surfaces}
-use Rattle.scene.specs.Steps.{Scene, without, entryOf, removes, adds, applied, refusal, bare, replay, replays}
+use Rattle.scene.specs.Steps.{Scene, without, entryOf, removes, adds, applied, refusal, replay, replays, mostSteps}
 use Rattle.scene.specs.Session.{Session, State, rightFor, sceneOf, refused, made, unmade, tried, called}
 use Rattle.replay.specs.declared.Size.{Size}
 use Rattle.replay.specs.Tables.{names, draws, roomOfTables, TablesAgree, askedBy}
 use Rattle.stored.specs.Bytes.{stepAt, stepsOf, readable, sessionOf, putShown, allPlaced, marksFrom, putHistory, putCall}
-use Rattle.replay.specs.Replay.{no, ok, judged}
+use Rattle.replay.specs.Replay.{no, ok, judged, groundOf}
 use Rattle.session.specs.Plans.{validShown, plannedRight, planned, undone, numberOf, bytesKept}
 use Rattle.replay.proofs.Lists.{append-nil}
 use Rattle.number.proofs.BoolLaws.{or-left, or-right}
 use Rattle.session.proofs.BridgeLaws.{valid-same, back-same, planned-same}
 use Rattle.session.proofs.CalledLaws.{not-nine}
 use Rattle.stored.proofs.BytesLaws.{length-down, newest-length, dropped-length, steps-after, steps-dropped, shown-back}
+use Rattle.stored.specs.Layout.{sessionSize, shownFrom, markSize}
+use Rattle.replay.proofs.GroundLaws.{Ground, session-ground, ground-kept}
 use Rattle.replay.proofs.ReplayLaws.{all-stand, placed-back, replays-few, accepted-few, right-shown, right-scene}
 
 -- ---- how long a shown list is
@@ -49,62 +51,68 @@ module _ (room : Room) where
       let w = without-length (removes room sc (Hide o)) (sc .shown) in
       rw (append-nil (without (removes room sc (Hide o)) (sc .shown))) (omega arith)
 
-  replay-length : (h : List Step) → length (replay room (bare room) h .shown) ≤ length h
-  unfolding replay bare
-  replay-length [] = omega arith
-  replay-length (st ∷ h) =
-      let a = applied-length (replay room (bare room) h) st in
-      let b = replay-length h in
-      omega arith
+  module _ (g : Scene) where
+    replay-length : (h : List Step) → length (replay room g h .shown) ≤ length (g .shown) + length h
+    unfolding replay
+    replay-length [] = omega arith
+    replay-length (st ∷ h) =
+        let a = applied-length (replay room g h) st in
+        let b = replay-length h in
+        omega arith
 
-  -- ---- bytes that keep a history and the list of its replay hold that session
+    -- ---- bytes that keep a ground, a history and the list of its replay hold that session
 
-  holds : (m : List ℕ) (h : List Step) → 450 ≤ length m → length h ≤ 64 → stepsOf (putShown m (replay room (bare room) h .shown)) ≡ h
-      → sessionOf room (putShown m (replay room (bare room) h .shown)) ≡ record { history = h; shown = replay room (bare room) h .shown }
-  unfolding sessionOf
-  holds m h long few s =
-      let es = replay room (bare room) h .shown in
-      let b = putShown m es in
-      let n = replay-length h in
-      let k : 322 + 2 * length es ≤ length m = omega arith in
-      let q : allPlaced (replay room (bare room) (stepsOf b) .last) (marksFrom b 0 (getD b 1 0)) ≡ es =
-      (λ i. allPlaced (replay room (bare room) (s i) .last) (shown-back m es k i))
-      ∙ placed-back (replay room (bare room) h .last) es (all-stand room h) in
-      λ i. record { history = s i; shown = q i }
+    module _ (G : Ground room g) (m : List ℕ) (h : List Step) where
+      abbrev es : List Entry
+      es = replay room g h .shown
 
-  module _ (l : List ℕ) (long : 450 ≤ length l) (right : rightFor room (sessionOf room l) ≡ true) where
+      holds : sessionSize ≤ length m → length h ≤ mostSteps → groundOf room (putShown m es) ≡ g → stepsOf (putShown m es) ≡ h
+          → sessionOf room (putShown m es) ≡ record { ground = g; history = h; shown = es }
+      unfolding sessionOf
+      holds long few e s =
+          let b = putShown m es in
+          let n = replay-length h in
+          let short = G .short in
+          let k : shownFrom + markSize * length es ≤ length m = omega arith in
+          let q : allPlaced (replay room (groundOf room b) (stepsOf b) .last) (marksFrom b shownFrom 0 (getD b 1 0)) ≡ es =
+          (λ i. allPlaced (replay room (e i) (s i) .last) (shown-back m es k i))
+          ∙ placed-back (replay room g h .last) es (all-stand room g G h) in
+          λ i. record { ground = e i; history = s i; shown = q i }
+
+  module _ (l : List ℕ) (long : sessionSize ≤ length l) (right : rightFor room (sessionOf room l) ≡ true) where
     abbrev ss : Session
     ss = sessionOf room l
 
-    shown-is : (st : Step) → applied room (sceneOf room ss) st .shown ≡ replay room (bare room) (st ∷ stepsOf l) .shown
+    shown-is : (st : Step) → applied room (sceneOf room ss) st .shown ≡ replay room (ss .ground) (st ∷ stepsOf l) .shown
     unfolding replay
     shown-is st = ap (λ (c : Scene). applied room c st .shown) (right-scene room l right)
 
     made-holds : (st : Step) → refusal room (length (ss .history)) (sceneOf room ss) st ≡ 0
         → sessionOf room (putCall l (Make st) (applied room (sceneOf room ss) st .shown))
-        ≡ record { history = st ∷ ss .history; shown = applied room (sceneOf room ss) st .shown }
+        ≡ record { ground = ss .ground; history = st ∷ ss .history; shown = applied room (sceneOf room ss) st .shown }
     unfolding sessionOf
     made-holds st e =
         let few = accepted-few room (length (stepsOf l)) (sceneOf room ss) st e in
         let n = length-down (stepAt l) (getD l 0 0) in
         let h = st ∷ stepsOf l in
-        let es = replay room (bare room) h .shown in
-        let c : getD l 0 0 < 64 = omega arith in
-        let m : 450 ≤ length (putHistory l (Make st)) = omega (arith, newest-length l st [] long c) in
+        let es = replay room (ss .ground) h .shown in
+        let c : getD l 0 0 < mostSteps = omega arith in
+        let m : sessionSize ≤ length (putHistory l (Make st)) = omega (arith, newest-length l st [] long c) in
         ap (λ (x : List Entry). sessionOf room (putCall l (Make st) x)) (shown-is st)
-        ∙ holds (putHistory l (Make st)) h m few (steps-after l st es long c)
-        ∙ (λ i. record { history = h; shown = sym (shown-is st) i })
+        ∙ holds (ss .ground) (session-ground room l) (putHistory l (Make st)) h m few (ground-kept room l (Make st) es) (steps-after l st es long c)
+        ∙ (λ i. record { ground = ss .ground; history = h; shown = sym (shown-is st) i })
 
     back-holds : (st : Step) (h : List Step) → stepsOf l ≡ st ∷ h
-        → sessionOf room (putCall l TakeBack (replay room (bare room) h .shown)) ≡ record { history = h; shown = replay room (bare room) h .shown }
+        → sessionOf room (putCall l TakeBack (replay room (ss .ground) h .shown))
+        ≡ record { ground = ss .ground; history = h; shown = replay room (ss .ground) h .shown }
     back-holds st h e =
-        let r = subst (λ (k : List Step). replays room (bare room) k ≡ true) e (right-shown room l right .0) in
-        let few : suc (length h) ≤ 64 = replays-few room (st ∷ h) r in
-        let es = replay room (bare room) h .shown in
+        let r = subst (λ (k : List Step). replays room (ss .ground) k ≡ true) e (right-shown room l right .0) in
+        let few : suc (length h) ≤ mostSteps = replays-few room (ss .ground) (st ∷ h) r in
+        let es = replay room (ss .ground) h .shown in
         let n = sym (length-down (stepAt l) (getD l 0 0)) ∙ ap length e in
-        let c : getD l 0 0 ≤ 64 = omega arith in
-        let m : 450 ≤ length (putHistory l TakeBack) = omega (arith, dropped-length l st h es long c e) in
-        holds (putHistory l TakeBack) h m (omega arith) (steps-dropped l st h es long c e)
+        let c : getD l 0 0 ≤ mostSteps = omega arith in
+        let m : sessionSize ≤ length (putHistory l TakeBack) = omega (arith, dropped-length l st h es long c e) in
+        holds (ss .ground) (session-ground room l) (putHistory l TakeBack) h m (omega arith) (ground-kept room l TakeBack es) (steps-dropped l st h es long c e)
 
   -- ---- a call's number, and the session after it
 
@@ -112,7 +120,7 @@ module _ (room : Room) where
   number-case true k es q = eqb-true k 0 q
   number-case false k es q = refl
 
-  module _ (l : List ℕ) (long : 450 ≤ length l) (lent : Surfaces) where
+  module _ (l : List ℕ) (long : sessionSize ≤ length l) (lent : Surfaces) where
     abbrev s0 : Session
     s0 = sessionOf room l
 
@@ -141,8 +149,9 @@ module _ (room : Room) where
         (λ r q. sym (made-holds l long r st (eqb-true k 0 q)))
 
     undone-case : (h : List Step) → stepsOf l ≡ h → rightFor room s0 ≡ true
-        → (unmade room h b .number ≡ numberOf (undone room h)) × (unmade room h b .after .session ≡ sessionOf room (bytesKept l TakeBack (undone room h)))
-    unfolding unmade undone
+        → (unmade room h b .number ≡ numberOf (undone room (s0 .ground) h)) ×
+        (unmade room h b .after .session ≡ sessionOf room (bytesKept l TakeBack (undone room (s0 .ground) h)))
+    unfolding unmade undone sessionOf
     undone-case [] e r = (refl, refl)
     undone-case (st ∷ h) e r = (refl, sym (back-holds l long r st h e))
 
@@ -152,9 +161,9 @@ module _ (room : Room) where
     back-called = go (rightFor room s0) refl
       where
         go : (r : Bool) → rightFor room s0 ≡ r
-            → (cond r (unmade room (stepsOf l) b) (refused 9 b) .number ≡ numberOf (cond r (undone room (stepsOf l)) (no 9)))
+            → (cond r (unmade room (stepsOf l) b) (refused 9 b) .number ≡ numberOf (cond r (undone room (s0 .ground) (stepsOf l)) (no 9)))
             × (cond r (unmade room (stepsOf l) b) (refused 9 b) .after .session ≡ sessionOf room
-            (bytesKept l TakeBack (cond r (undone room (stepsOf l)) (no 9))))
+            (bytesKept l TakeBack (cond r (undone room (s0 .ground) (stepsOf l)) (no 9))))
         go false q = (refl, refl)
         go true q = undone-case (stepsOf l) refl q
 
@@ -174,41 +183,40 @@ module _ (room : Room) where
         go false e = absurd (not-nine e)
     called-shown TakeBack = go (rightFor room s0)
       where
-        inner : (h : List Step) → unmade room h b .number ≡ 0 → undone room h ≡ ok (unmade room h b .after .session .shown)
+        inner : (h : List Step) → unmade room h b .number ≡ 0 → undone room (s0 .ground) h ≡ ok (unmade room h b .after .session .shown)
         inner [] e = absurd (let w : _≡_ {A = ℕ} 13 0 = e in omega arith)
         inner (st ∷ h) e = refl
 
         go : (t : Bool) → cond t (unmade room (stepsOf l) b) (refused 9 b) .number ≡ 0
-            → cond t (undone room (stepsOf l)) (no 9) ≡ ok (cond t (unmade room (stepsOf l) b) (refused 9 b) .after .session .shown)
+            → cond t (undone room (s0 .ground) (stepsOf l)) (no 9) ≡ ok (cond t (unmade room (stepsOf l) b) (refused 9 b) .after .session .shown)
         go true e = inner (stepsOf l) e
         go false e = absurd (not-nine e)
 
 -- ---- the same by the tables
 
-long-wrong : (room : Room) (l : List ℕ) → leb (getD l 0 0) 64 ≡ false → rightFor room (sessionOf room l) ≡ false
+long-wrong : (room : Room) (l : List ℕ) → leb (getD l 0 0) mostSteps ≡ false → rightFor room (sessionOf room l) ≡ false
 long-wrong room l e = go (rightFor room (sessionOf room l)) refl
   where
     go : (t : Bool) → rightFor room (sessionOf room l) ≡ t → t ≡ false
     go true q =
-        absurd
-        (omega
-        (arith, leb-false (getD l 0 0) 64 e, replays-few room (stepsOf l) (right-shown room l q .0), length-down (stepAt l) (getD l 0 0)))
+        let few = replays-few room (groundOf room l) (stepsOf l) (right-shown room l q .0) in
+        absurd (omega (arith, leb-false (getD l 0 0) mostSteps e, few, length-down (stepAt l) (getD l 0 0)))
     go false q = refl
 
 module _ (room : Room) (objects verdicts : List ℕ) (size : Size) (l : List ℕ) where
   abbrev T : Room
   T = roomOfTables objects verdicts size
 
-  -- a history of at most 64 steps is read, and its images are known
-  read : leb (getD l 0 0) 64 ≡ true → readable l ≡ stepsOf l
+  -- a history that is not too long is read, and its images are known
+  read : leb (getD l 0 0) mostSteps ≡ true → readable l ≡ stepsOf l
   unfolding readable
   read e = rw e
 
   pub valid-known : TablesAgree room objects verdicts size (readable l) → validShown room l ≡ validShown T l
   unfolding validShown
-  valid-known K = go (leb (getD l 0 0) 64) refl
+  valid-known K = go (leb (getD l 0 0) mostSteps) refl
     where
-      go : (t : Bool) → leb (getD l 0 0) 64 ≡ t → validShown room l ≡ validShown T l
+      go : (t : Bool) → leb (getD l 0 0) mostSteps ≡ t → validShown room l ≡ validShown T l
       go true q = valid-same room objects verdicts size (readable l) K l (λ o s n. subst (λ (h : List Step). names h o s ≡ true) (sym (read q)) n)
       go false q = rw (long-wrong room l q, long-wrong T l q)
 
@@ -221,8 +229,8 @@ module _ (room : Room) (objects verdicts : List ℕ) (size : Size) (l : List ℕ
 
   pub planned-known : (c : Call) → TablesAgree room objects verdicts size (askedBy c (readable l)) → planned room l c ≡ planned T l c
   unfolding planned
-  planned-known c K = go (leb (getD l 0 0) 64) refl
+  planned-known c K = go (leb (getD l 0 0) mostSteps) refl
     where
-      go : (t : Bool) → leb (getD l 0 0) 64 ≡ t → planned room l c ≡ planned T l c
+      go : (t : Bool) → leb (getD l 0 0) mostSteps ≡ t → planned room l c ≡ planned T l c
       go true q = asked-known c (subst (λ (h : List Step). TablesAgree room objects verdicts size (askedBy c h)) (read q) K)
       go false q = rw (long-wrong room l q, long-wrong T l q)

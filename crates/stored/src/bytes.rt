@@ -2,8 +2,14 @@
 ghost use mathlib.Core.Path.{_≡_};
 ghost use Prim.Native.Nat.{_+_, _≤_, _<_};
 ghost use lib.ListN.{length, getD};
+ghost use Rattle.scene.specs.Steps.{mostSteps};
 ghost use Rattle.stored.specs.Bytes.{stepAt, putStep, Small, Storable, putHistory, putShown, marksFrom, sameMarks, isMark, mark};
 ghost use Rattle.stored.specs.Bytes.{All, SmallEntry, entries};
+ghost use Rattle.stored.specs.Layout.{sessionSize, stepSize, shownFrom, mostShown};
+use crate::MARK_SIZE;
+use crate::SHOWN_FROM;
+use crate::STEP_SIZE;
+use crate::STEPS_FROM;
 use crate::Shown;
 use scene::Call;
 use scene::Entry;
@@ -23,10 +29,10 @@ fn number(x: u8) -> u32
 }
 
 pub fn step_at(session: &[u8], i: usize) -> Step
-    requires { ⌜ (i < 64) × (450 ≤ length (now session)) ⌝ }
+    requires { ⌜ (i < mostSteps) × (sessionSize ≤ length (now session)) ⌝ }
     ensures { λ r. ⌜ r ≡ stepAt (now (session .entry)) i ⌝ }
 {
-    let at = 2 + 5 * i;
+    let at = STEPS_FROM + STEP_SIZE * i;
     let object = number(session[at + 1]);
     match session[at] {
         0 => Step::Hide(object),
@@ -40,7 +46,7 @@ pub fn step_at(session: &[u8], i: usize) -> Step
 }
 
 fn put5(session: &mut [u8], at: usize, kind: u8, object: u8, state: u8, a: u8, b: u8)
-    requires { ⌜ at + 5 ≤ length (now session) ⌝ }
+    requires { ⌜ at + stepSize ≤ length (now session) ⌝ }
     ensures { λ r. ⌜ now (session .exit) ≡ Rattle.stored.specs.Bytes.put5 (now (session .entry)) at kind object state a b ⌝ }
 {
     session[at] = kind;
@@ -51,10 +57,10 @@ fn put5(session: &mut [u8], at: usize, kind: u8, object: u8, state: u8, a: u8, b
 }
 
 fn put_step(session: &mut [u8], i: usize, step: Step)
-    requires { ⌜ (i < 64) × (450 ≤ length (now session)) × Small step ⌝ }
+    requires { ⌜ (i < mostSteps) × (sessionSize ≤ length (now session)) × Small step ⌝ }
     ensures { λ r. ⌜ now (session .exit) ≡ putStep (now (session .entry)) i step ⌝ }
 {
-    let at = 2 + 5 * i;
+    let at = STEPS_FROM + STEP_SIZE * i;
     match step {
         Step::Hide(o) => put5(session, at, 0, o as u8, 0, 0, 0),
         Step::Draw(o, s, place) => match place {
@@ -66,7 +72,7 @@ fn put_step(session: &mut [u8], i: usize, step: Step)
 
 // The history after a call: its step is put after the others, or the newest is dropped, whose record's bytes stay.
 pub fn store_history(session: &mut [u8], call: Call)
-    requires { ⌜ (450 ≤ length (now session)) × Storable (now session) call ⌝ }
+    requires { ⌜ (sessionSize ≤ length (now session)) × Storable (now session) call ⌝ }
     ensures { λ r. ⌜ now (session .exit) ≡ putHistory (now (session .entry)) call ⌝ }
 {
     let n = count(session[0]);
@@ -82,14 +88,14 @@ pub fn store_history(session: &mut [u8], call: Call)
 }
 
 pub fn store_shown(session: &mut [u8], s: Shown)
-    requires { ⌜ (450 ≤ length (now session)) × (s .n ≤ 64) × All SmallEntry (entries s) ⌝ }
+    requires { ⌜ (sessionSize ≤ length (now session)) × (s .n ≤ mostShown) × All SmallEntry (entries s) ⌝ }
     ensures { λ r. ⌜ now (session .exit) ≡ putShown (now (session .entry)) (entries s) ⌝ }
 {
     let n = s.n;
     let mut i = 0;
     while i < n {
         let e = s.list[i];
-        let at = 322 + 2 * i;
+        let at = SHOWN_FROM + MARK_SIZE * i;
         session[at] = e.object as u8;
         session[at + 1] = e.state as u8;
         i += 1;
@@ -105,8 +111,8 @@ fn is_mark(object: u8, state: u8, e: Entry) -> bool
 
 // The shown list that the session keeps is s.
 pub fn agrees(session: &[u8], s: Shown) -> bool
-    requires { ⌜ (450 ≤ length (now session)) × (s .n ≤ 64) ⌝ }
-    ensures { λ r. ⌜ r ≡ sameMarks (marksFrom (now (session .entry)) 0 (getD (now (session .entry)) 1 0)) (entries s) ⌝ }
+    requires { ⌜ (sessionSize ≤ length (now session)) × (s .n ≤ mostShown) ⌝ }
+    ensures { λ r. ⌜ r ≡ sameMarks (marksFrom (now (session .entry)) shownFrom 0 (getD (now (session .entry)) 1 0)) (entries s) ⌝ }
 {
     let n = s.n;
     if count(session[1]) != n {
@@ -116,7 +122,7 @@ pub fn agrees(session: &[u8], s: Shown) -> bool
     let mut i = 0;
     while i < n {
         let e = s.list[i];
-        let at = 322 + 2 * i;
+        let at = SHOWN_FROM + MARK_SIZE * i;
         same = same & is_mark(session[at], session[at + 1], e);
         i += 1;
     }

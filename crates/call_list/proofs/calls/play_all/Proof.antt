@@ -5,9 +5,10 @@ use native.Mathlib.Omega.{arith}
 use borrow.Author.Needs.{needs}
 use denote.Ref.{now}
 use lib.ListN.{length, length-set}
-use Rattle.play.specs.Bytes.{lent}
+use Rattle.scene.specs.Calls.{afterAll}
+use Rattle.play.specs.Bytes.{lent, played}
 use Rattle.call_list.specs.Coded.{callsOf, callCount}
-use Rattle.call_list.specs.Run.{played, playedNumber, putFirst}
+use Rattle.call_list.specs.Run.{playedNumber, putFirst}
 use Rattle.call_list.proofs.RunLaws.{turn-bytes, turn-numbers}
 use Rattle.call_list.proofs.calls.play_all.Statement.{statement}
 use Rattle.call_list.proofs.calls.play_all.Tie as tie
@@ -22,7 +23,7 @@ abbrev μ-loop : tie.MeasureT-loop
 μ-loop room session₀ pixels₀ masks₀ calls numbers₀ n i₀ session pixels masks numbers i = n - i
 
 loop-holds : tie.Need-loop-holds Inv-loop μ-loop
-unfolding played callsOf putFirst
+unfolding afterAll played callsOf putFirst
 loop-holds c = (omega arith, refl, refl, refl, refl, refl, refl)
 
 play-one-requires : tie.Need-play-one-requires Inv-loop μ-loop

@@ -4,13 +4,15 @@ use lib.ListN.{length, take, drop}
 use native.Mathlib.Omega.{arith}
 use borrow.Author.Needs.{needs}
 use Rattle.stored.proofs.Lists.{length-of-map}
+use Rattle.stored.specs.Layout.{mostShown}
 use Rattle.climb.specs.Climb.{stateOf}
 use Rattle.climb.proofs.ClimbLaws.{state-hit, state-miss, state-none}
 use Rattle.climb.proofs.states.state_of.Statement.{statement}
 use Rattle.climb.proofs.states.state_of.Tie as tie
 
 abbrev Inv-loop : tie.InvT-loop
-Inv-loop o s n i₀ i = (i ≤ n) × (n ≤ 64) × (n ≡ s .n) × (length (s .list) ≡ 64) × (stateOf (take n (s .list)) o ≡ stateOf (drop i (take n (s .list))) o)
+Inv-loop o s n i₀ i = (i ≤ n) × (n ≤ mostShown) × (n ≡ s .n) × (length (s .list) ≡ mostShown) ×
+    (stateOf (take n (s .list)) o ≡ stateOf (drop i (take n (s .list))) o)
 
 abbrev μ-loop : tie.MeasureT-loop
 μ-loop o s n i₀ i = n - i

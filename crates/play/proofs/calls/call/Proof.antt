@@ -2,6 +2,7 @@
 use Rattle.image.proofs.CountLaws.{objects-counted, few-objects}
 use Rattle.room.proofs.TestLaws.{test-passes, surfaces-long}
 use Rattle.room.specs.Test.{roomTest}
+use Rattle.stored.specs.Layout.{sessionSize}
 use lib.ListN.{length}
 use denote.Ref.{now}
 use native.Mathlib.Omega.{arith}
@@ -24,7 +25,7 @@ call-tested-requires c κs =
     let right = sym (passed .r .given .1) ∙ passed .before .before .test-room .ensures in
     let passes = test-passes _ _ _ (right ∙ ap (λ l. roomTest l (now (a .room))) (lent .ensures)) in
     let long =
-    surfaces-long 450 (length (now (a .session))) (length (now (a .pixels))) (length (now (a .masks))) (passed .r .given .0 .0) (passes .enough) in
+    surfaces-long sessionSize (length (now (a .session))) (length (now (a .pixels))) (length (now (a .masks))) (passed .r .given .0 .0) (passes .enough) in
     let gathered = c .before .before .before .before .before .gather .ensures in (
       (record { sound = passes .sound; passed = passes .pictures; gathered = gathered }, objects-counted _ _ _ right, long .0),
       (long .1, long .2),

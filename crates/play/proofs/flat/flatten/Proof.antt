@@ -1,6 +1,7 @@
 use Rattle.play.proofs.FlatLaws.{flat-more}
 use Rattle.layers.specs.Decoded.{entriesOf}
 use Rattle.stored.proofs.Lists.{length-of-map}
+use Rattle.stored.specs.Layout.{mostShown}
 use lib.ListN.{length, take, length-set}
 use borrow.Author.Needs.{needs}
 use native.Mathlib.Omega.{arith}
@@ -10,7 +11,7 @@ use Rattle.play.proofs.flat.flatten.Statement.{statement}
 use Rattle.play.proofs.flat.flatten.Tie as tie
 
 abbrev Inv-loop : tie.InvT-loop
-Inv-loop out₀ s n i₀ out i = (i ≤ n) × (n ≤ 64) × (n ≡ s .n) × (length (s .list) ≡ 64) × (256 ≤ length out₀) × (length out ≡ length out₀) ×
+Inv-loop out₀ s n i₀ out i = (i ≤ n) × (n ≤ mostShown) × (n ≡ s .n) × (length (s .list) ≡ mostShown) × (256 ≤ length out₀) × (length out ≡ length out₀) ×
     (entriesOf out i ≡ take i (s .list))
 
 abbrev μ-loop : tie.MeasureT-loop

@@ -7,6 +7,7 @@ use denote.Ref.{now}
 use lib.ListN.{length}
 use Rattle.room.specs.Test.{strips}
 use Rattle.stored.specs.Bytes.{entries, putShown}
+use Rattle.stored.specs.Layout.{sessionSize}
 use Rattle.play.proofs.FineLaws.{listed}
 use Rattle.play.proofs.CallLaws.{number-is, refused-stays, after-fine, accepted-leaves}
 use borrow.Author.Needs.{needs}
@@ -59,7 +60,7 @@ store-shown-requires c κs =
     let accepted = if1 .left in
     let planned = c .before .before .before .before .before .before .before .before .before .before in
     let start = planned .before .before .before .before .before .before .before .before .before .before .before .before .before .before in
-    let long : 450 ≤ length (stored .last .0) = omega (arith, stored .kept .0, start .pre .0 .2) in
+    let long : sessionSize ≤ length (stored .last .0) = omega (arith, stored .kept .0, start .pre .0 .2) in
     (long, planned .plan .ensures .few, planned .plan .ensures .storable accepted .1)
 
 rebuild-requires : tie.Need-rebuild-requires

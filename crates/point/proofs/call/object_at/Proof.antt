@@ -8,6 +8,7 @@ use Rattle.point.proofs.CallLaws.{flags-long}
 use Rattle.room.specs.Test.{roomTest}
 use Rattle.room.proofs.TestLaws.{test-passes}
 use Rattle.image.proofs.CountLaws.{objects-counted, few-objects}
+use Rattle.stored.specs.Layout.{sessionSize}
 use Rattle.point.proofs.call.object_at.Statement.{statement}
 use Rattle.point.proofs.call.object_at.Tie as tie
 
@@ -24,7 +25,7 @@ ask-requires c κs =
     let a = at-r .before .before .before .before .before .before .before .args in
     let right = sym (r .given .1) ∙ test-room .ensures in
     let passes = test-passes _ _ _ (right ∙ ap (λ l. roomTest l (now (a .room))) (flags-lent .ensures)) in
-    let long = flags-long 450 (length (now (a .session))) (length (now (a .flags))) (r .given .0 .0) (passes .enough) in
+    let long = flags-long sessionSize (length (now (a .session))) (length (now (a .flags))) (r .given .0 .0) (passes .enough) in
     ((record { sound = passes .sound; passed = passes .pictures; gathered = gather .ensures }, objects-counted _ _ _ right), long)
 
 returns : tie.Need-returns

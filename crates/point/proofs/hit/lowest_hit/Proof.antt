@@ -1,7 +1,6 @@
 use Prim.Native.Nat.{suc, _≤_, _+_, _-_}
 use mathlib.Core.Path.{_≡_, refl, ap}
 use native.Mathlib.Omega.{arith}
-use Rattle.stored.specs.Bytes.{down, stepAt}
 use Rattle.point.specs.Point.{lowest}
 use Rattle.point.specs.Tables.{hitIn}
 use Rattle.point.proofs.PointLaws.{lowest-hit, lowest-miss, lowest-none}
@@ -9,12 +8,12 @@ use Rattle.point.proofs.hit.lowest_hit.Statement.{statement}
 use Rattle.point.proofs.hit.lowest_hit.Tie as tie
 
 abbrev Inv-loop : tie.InvT-loop
-Inv-loop boxes states session flags size steps x y count o₀ o = (1 ≤ o) × (o ≤ count + 1) × (count ≡ size .count) ×
-    (lowest (hitIn boxes states size (down (stepAt session) steps) flags x y) 1 count ≡ lowest (hitIn boxes states size (down (stepAt session) steps) flags x y)
+Inv-loop boxes states places flags size x y count o₀ o = (1 ≤ o) × (o ≤ count + 1) × (count ≡ size .count) ×
+    (lowest (hitIn boxes states places size flags x y) 1 count ≡ lowest (hitIn boxes states places size flags x y)
     o (suc count - o))
 
 abbrev μ-loop : tie.MeasureT-loop
-μ-loop boxes states session flags size steps x y count o₀ o = count + 1 - o
+μ-loop boxes states places flags size x y count o₀ o = count + 1 - o
 
 loop-holds : tie.Need-loop-holds Inv-loop μ-loop
 loop-holds c = (omega arith, omega arith, refl, ap (lowest _ 1) (omega arith))
@@ -23,7 +22,7 @@ is-hit-requires : tie.Need-is-hit-requires Inv-loop μ-loop
 is-hit-requires c κs =
     let pre = c .before .before .before .before .before .before .pre in
     let v = c .before .loop .inv in
-    (pre .0, pre .1, pre .2, pre .3, pre .4, v .0, omega arith, pre .5)
+    (pre .0, pre .1, pre .2, pre .3, v .0, omega arith, pre .4)
 
 cast-result : tie.Need-cast-result Inv-loop μ-loop
 cast-result c =

@@ -8,12 +8,13 @@ use borrow.Author.Needs.{needs}
 use Rattle.scene.specs.declared.Entry.{Entry}
 use Rattle.scene.specs.Steps.{some}
 use Rattle.stored.proofs.Lists.{length-of-map}
+use Rattle.stored.specs.Layout.{mostShown}
 use Rattle.replay.proofs.Lists.{some-more}
 use Rattle.replay.proofs.list.is_shown.Statement.{statement}
 use Rattle.replay.proofs.list.is_shown.Tie as tie
 
 abbrev Inv-loop : tie.InvT-loop
-Inv-loop object s n found₀ i₀ found i = (i ≤ n) × (n ≤ 64) × (n ≡ s .n) × (length (s .list) ≡ 64) ×
+Inv-loop object s n found₀ i₀ found i = (i ≤ n) × (n ≤ mostShown) × (n ≡ s .n) × (length (s .list) ≡ mostShown) ×
     (found ≡ some (λ (e : Entry). eqb (e .object) object) (take i (s .list)))
 
 abbrev μ-loop : tie.MeasureT-loop

@@ -5,14 +5,16 @@ use lib.ListN.{length, take, drop, length-set}
 use native.Mathlib.Omega.{arith}
 use borrow.Author.Needs.{needs}
 use Rattle.stored.specs.Bytes.{putMarks, All, SmallEntry}
+use Rattle.stored.specs.Layout.{sessionSize, shownFrom, mostShown}
 use Rattle.stored.proofs.BytesLaws.{small-at, put-more, put-all}
 use Rattle.stored.proofs.Lists.{length-of-map}
 use Rattle.stored.proofs.bytes.store_shown.Statement.{statement}
 use Rattle.stored.proofs.bytes.store_shown.Tie as tie
 
 abbrev Inv-loop : tie.InvT-loop
-Inv-loop session₀ s n i₀ session i = (i ≤ n) × (n ≤ 64) × (n ≡ s .n) × (length (s .list) ≡ 64) × (450 ≤ length session₀) × (length session ≡ length session₀) ×
-    All SmallEntry (take n (s .list)) × (putMarks session₀ 0 (take n (s .list)) ≡ putMarks session i (drop i (take n (s .list))))
+Inv-loop session₀ s n i₀ session i = (i ≤ n) × (n ≤ mostShown) × (n ≡ s .n) × (length (s .list) ≡ mostShown) × (sessionSize ≤ length session₀) ×
+    (length session ≡ length session₀) ×
+    All SmallEntry (take n (s .list)) × (putMarks session₀ shownFrom 0 (take n (s .list)) ≡ putMarks session shownFrom i (drop i (take n (s .list))))
 
 abbrev μ-loop : tie.MeasureT-loop
 μ-loop session₀ s n i₀ session i = n - i
@@ -51,7 +53,7 @@ loop-again c =
       v .4,
       simp length-set (v .5),
       v .6,
-      v .7 ∙ put-more (S .list) (S .n) (omega arith) (loop .session) (loop .i)
+      v .7 ∙ put-more (S .list) (S .n) (omega arith) (loop .session) shownFrom (loop .i)
           (record { object = 0; state = 0; x = 0; y = 0 }) (omega arith),
     )
 
