@@ -1,35 +1,51 @@
--- Demand 1 holds: a refused call leaves every lent byte.
-use Prim.Native.Nat.{ℕ, _≤_}
-use mathlib.Core.Path.{_≡_, refl, sym, _∙_}
-use mathlib.Core.List.{List}
+-- Demand 1 holds: a refused call leaves every lent byte and answers its number only.
+use Prim.Native.Nat.{ℕ}
+use mathlib.Core.Path.{_≡_, refl, _∙_}
+use mathlib.Core.List.{List, []}
 use lib.ListN.{length}
-use Rattle.room.specs.Test.{numberOf, withSurfaces}
+use Rattle.room.specs.Test.{numberOf, nothing}
 use Rattle.objects.specs.Record.{recordTest, recordAfter}
-use Rattle.objects.specs.Object.{placeNumber, headerCall, headerAfter}
+use Rattle.objects.specs.Object.{placeNumber, headerCall, headerAfter, chosenBlock}
+use Rattle.objects.specs.Name.{nameNumber, namePlace, nameAfter, chosenNumber, placeWord, partOf}
+use Rattle.objects.specs.declared.Chosen.{Chosen}
+use Rattle.objects.specs.declared.Chosen.the-variants as chosen
 use Rattle.room.specs.declared.Room as room
 use Rattle.room.specs.declared.Tested.{Tested}
 use Rattle.room.specs.declared.Tested.the-variants as tested
 use Rattle.objects.specs.declared.Place.{Place}
 use Rattle.objects.specs.declared.Place.the-variants as place
-use Rattle.room.proofs.TestLaws.{test-passes, surfaces-long}
 use Rattle.actor.proofs.ActorLaws.{refused-keeps}
-use Rattle.block_writer.specs.Call.{number, Outcome, refused, written, smapOutcome, planeOutcome, answerOf, targetAfter}
-use Rattle.costume.proofs.Theorems.{start-unchanged}
+use Rattle.actor.specs.Hidden as hidden
+use Rattle.actor.specs.declared.Answer.{Answer}
+use Rattle.actor.specs.declared.Answer.the-variants as answer
+use Rattle.block_writer.specs.Call as write
+use Rattle.block_writer.specs.declared.Wrote.{Wrote}
+use Rattle.block_writer.specs.declared.Wrote.the-variants as wrote
+use Rattle.costume.specs.Start as start
+use Rattle.costume.specs.declared.Started.{Started}
+use Rattle.costume.specs.declared.Started.the-variants as started
+use Rattle.costume.proofs.Theorems.{start-number, start-unchanged}
+use Rattle.limbs.specs.Limb as limb
+use Rattle.limbs.specs.declared.Drawn.{Drawn}
+use Rattle.limbs.specs.declared.Drawn.the-variants as drawn
+use Rattle.point.specs.Call as point
+use Rattle.point.specs.declared.Pointed.{Pointed}
+use Rattle.point.specs.declared.Pointed.the-variants as pointed
+use Rattle.kildegrom.specs.Word.{hiddenWord, startedWord, drawnWord, wroteWord, pointedWord}
+use Rattle.kildegrom.proofs.WordLaws.{number-back, value-back}
 use Rattle.limbs.proofs.Theorems.{tick-unchanged}
 use Rattle.load.specs.Load.{sessionAfter, pixelsAfter, masksAfter}
 use Rattle.scene.specs.Painting.{Room}
 use Rattle.scene.specs.declared.Call.{Call}
 use Rattle.scene.specs.Session.{State, called}
-use Rattle.replay.specs.Replay as replay
-use Rattle.session.specs.Plans as plans
 use Rattle.session.proofs.CalledLaws.{called-refused}
-use Rattle.session.proofs.Caller.{called-kept}
+use Rattle.play.proofs.CallLaws.{kept-refused}
 use Rattle.layers.specs.Decoded.{decoded}
-use Rattle.play.specs.Calls.{stateOf, kept}
+use Rattle.play.specs.Calls.{stateOf}
 use Rattle.play.specs.Bytes as play
-use Rattle.demands.specs.Demand1.{Refusing, Demand1}
+use Rattle.demands.specs.Demand1.{Refusing, Parts, Demand1}
 
--- ---- records, headers, loads, blocks
+-- ---- records, headers, names, loads, blocks
 
 record-stays : (t : Tested) (lent : List ℕ) → Refusing (numberOf t) → recordAfter t lent ≡ lent
 record-stays (tested.Right r) lent f = absurd (f refl)
@@ -39,52 +55,80 @@ header-stays : (s lent : List ℕ) (p : Place) → Refusing (placeNumber p) → 
 header-stays s lent (place.At p) f = absurd (f refl)
 header-stays s lent (place.Refused n) f = refl
 
+name-empty : (s : List ℕ) (c : Chosen) → Refusing (chosenNumber c) → (placeWord (nameAfter s c) ≡ 0) × (partOf s (nameAfter s c) ≡ [])
+name-empty s (chosen.Block b z) f = absurd (f refl)
+name-empty s (chosen.Refused n) f = (refl, refl)
+
 load-stays : (s : List ℕ) (b : play.Lent) (t : Tested) → Refusing (numberOf t)
     → record { session = sessionAfter t (b .session); pixels = pixelsAfter s t (b .pixels); masks = masksAfter s t (b .masks) } ≡ b
 load-stays s b (tested.Right r) f = absurd (f refl)
 load-stays s b (tested.Refused n) f = refl
 
-block-stays : (o : Outcome) (d : List ℕ) → Refusing (number (answerOf o)) → targetAfter o d ≡ d
-block-stays (refused k) d f = refl
-block-stays (written b) d f = absurd (f refl)
+block-stays : (o : write.Outcome) (d : List ℕ) → Refusing (write.number (write.answerOf o)) → write.targetAfter o d ≡ d
+block-stays (write.refused k) d f = refl
+block-stays (write.written b) d f = absurd (f refl)
+
+-- ---- answers of two parts
+
+object-parts : (a : Pointed) → Parts (point.number a) (point.value a) (pointedWord a)
+object-parts (pointed.Object o) = record { whole = refl; alone = λ f. absurd (f refl) }
+object-parts pointed.Nothing = record { whole = refl; alone = λ f. refl }
+object-parts (pointed.Refused n) = record { whole = refl; alone = λ f. refl }
+
+hidden-parts : (a : Answer) → Parts (hidden.number a) (hidden.value a) (hiddenWord a)
+hidden-parts (answer.Hidden is) = record { whole = refl; alone = λ f. absurd (f refl) }
+hidden-parts (answer.Refused n) = record { whole = refl; alone = λ f. refl }
+
+start-parts : (a : Started) → Parts (start.number a) (start.value a) (startedWord a)
+start-parts started.Set = record { whole = refl; alone = λ f. absurd (f refl) }
+start-parts started.Undefined = record { whole = refl; alone = λ f. refl }
+start-parts (started.Refused n) = record { whole = refl; alone = λ f. refl }
+
+draws-parts : (a : Drawn) → Parts (limb.number a) (limb.value a) (drawnWord a)
+draws-parts (drawn.Picture p) = record { whole = refl; alone = λ f. absurd (f refl) }
+draws-parts drawn.Nothing = record { whole = refl; alone = λ f. refl }
+draws-parts (drawn.Refused n) = record { whole = refl; alone = λ f. refl }
+
+write-parts : (a : Wrote) → Parts (write.number a) (write.value a) (wroteWord a)
+write-parts (wrote.Block size) = record { whole = refl; alone = λ f. absurd (f refl) }
+write-parts (wrote.Refused n) = record { whole = refl; alone = λ f. refl }
 
 -- ---- draws, hides and take-backs
-
-plan-stays : (l : List ℕ) (c : Call) (p : replay.Plan) → Refusing (plans.numberOf p) → plans.bytesKept l c p ≡ l
-plan-stays l c (replay.no k) f = refl
-plan-stays l c (replay.ok es) f = absurd (f refl)
 
 module _ (s : List ℕ) (b : play.Lent) where
   abbrev held : room.Room → State
   held r = stateOf (decoded s r) (b .session) (b .pixels) (b .masks)
 
-  module _ (r : room.Room) (long : 450 ≤ length (b .session)) where
-    session-stays : (c : Call) → Refusing (called (decoded s r) (held r) c .number) → kept s r (b .session) c ≡ b .session
-    session-stays c f =
-        plan-stays (b .session) c (plans.planned (decoded s r) (b .session) c)
-        (λ z. f (called-kept (decoded s r) (b .session) long (held r .surfaces) c .0 ∙ z))
+  right-stays : (r : room.Room) (c : Call) → Refusing (called (decoded s r) (held r) c .number) → play.afterBy s b c (tested.Right r) ≡ b
+  right-stays r c f =
+      let e = called-refused (decoded s r) (held r) c f in
+      let stored = kept-refused (b .session) c (called (decoded s r) (held r) c) f in
+      λ i. record { session = stored i; pixels = e i .surfaces .pixels; masks = e i .surfaces .masks }
 
-    right-stays : (c : Call) → Refusing (called (decoded s r) (held r) c .number) → play.afterBy s b c (tested.Right r) ≡ b
-    right-stays c f =
-        let e = called-refused (decoded s r) (held r) c f in
-        λ i. record { session = session-stays c f i; pixels = e i .surfaces .pixels; masks = e i .surfaces .masks }
-
-  call-stays : (c : Call) (t : Tested) → play.testOf s b ≡ t → Refusing (play.numberBy s b c t) → play.afterBy s b c t ≡ b
-  call-stays c (tested.Right r) e f =
-      let passes = test-passes (withSurfaces 450 (length (b .session)) (length (b .pixels)) (length (b .masks))) s r (sym e) in
-      right-stays r (surfaces-long 450 (length (b .session)) (length (b .pixels)) (length (b .masks)) r (passes .enough) .0) c f
-  call-stays c (tested.Refused n) e f = refl
+  call-stays : (c : Call) (t : Tested) → Refusing (play.numberBy s b c t) → play.afterBy s b c t ≡ b
+  call-stays c (tested.Right r) f = right-stays r c f
+  call-stays c (tested.Refused n) f = refl
 
 pub demand1 : Demand1
 demand1 =
     record {
+      number-back = number-back;
+      value-back = value-back;
       record-stays = λ s lent f. record-stays (recordTest s lent) lent f;
       header-stays = λ s lent k f. header-stays s lent (headerCall s lent k) f;
+      name-empty = λ s k f. unfold nameNumber namePlace in name-empty s (chosenBlock nothing s k) f;
       load-stays = λ s b f. load-stays s b (play.testOf s b) f;
-      call-stays = λ s b c f. call-stays s b c (play.testOf s b) refl f;
+      call-stays = λ s b c f. call-stays s b c (play.callTest s b) f;
+      object-parts = λ s session flags x y. object-parts (point.pointedAt s session flags x y);
+      hidden-parts = λ masks w h n clip x y. hidden-parts (hidden.hiddenOf masks w h n clip x y);
       stamp-stays = λ frame masks picture w h n width height clear x y clip f. refused-keeps frame masks picture w h n width height clear x y clip f;
-      start-stays = start-unchanged;
+      start-parts = λ s l t count v chore direction. start-parts (start.startedOf s l t count v chore direction);
+      start-stays = λ s l t count v chore direction f.
+          start-unchanged s l t count v chore direction (λ z. f (start-number s l t count v chore direction ∙ z));
       tick-stays = tick-unchanged;
-      smap-stays = λ w h rows d f. block-stays (smapOutcome w h rows (length d)) d f;
-      plane-stays = λ k w h rows d f. block-stays (planeOutcome k w h rows (length d)) d f;
+      draws-parts = λ l i. draws-parts (limb.drawnOf l i);
+      smap-parts = λ w h rows d. write-parts (write.answerOf (write.smapOutcome w h rows (length d)));
+      smap-stays = λ w h rows d f. block-stays (write.smapOutcome w h rows (length d)) d f;
+      plane-parts = λ k w h rows d. write-parts (write.answerOf (write.planeOutcome k w h rows (length d)));
+      plane-stays = λ k w h rows d f. block-stays (write.planeOutcome k w h rows (length d)) d f;
     }

@@ -17,6 +17,7 @@ use Rattle.room.specs.Head.{headedIn, backgroundIn, neededIn, objectsRight, siz
 use Rattle.room.specs.Picture.{imTest}
 use Rattle.room.specs.Test.{picturesTest, short, afterHead, roomTest, numberOf}
 use Rattle.load.specs.Load.{background, loadedPixels, loadTest, pixelsAfter}
+use Rattle.stored.specs.Layout.{sessionSize}
 
 -- ROOM; RMHD 16, 2, 0; RMIM; RMIH 0; IM00; SMAP with the offsets 16 and 33; the raw strip; the strip with a run of 13
 abbrev pub room : List ℕ
@@ -31,7 +32,7 @@ room =
     ++ (0x44 ∷ 0x10 ∷ 0x63 ∷ 0x36 ∷ 0xE4 ∷ 0x07 ∷ [])
 
 abbrev pub session : List ℕ
-session = replicate 450 0
+session = replicate sessionSize 0
 
 abbrev pub lent : List ℕ
 lent = replicate 33 0xEE

@@ -1,5 +1,4 @@
--- What a load leaves of raw strips and of coded ones, and what a run gives (change request 5), from the laws of crates bits, strip, grid, paint,
--- room and load.
+-- What the pixels of raw strips and of coded ones are, and what a run gives (change request 5), from the laws of crates bits and strip.
 use mathlib.Core.Path.{_≡_, refl, sym, ap, _∙_}
 use mathlib.Core.Bool.{Bool, true, false}
 use mathlib.Core.List.{List, [], _∷_, _++_}
@@ -7,32 +6,24 @@ use mathlib.Core.Logic.{by-cases, inl, inr}
 use Prim.Native.Nat.{ℕ, zero, suc, _+_, _-_, _*_, _/_, _%_, _^_, _≤_, _<_}
 use native.Mathlib.Decide.{decLt}
 use native.Mathlib.Omega.{arith}
-use lib.Arith.{digits-div, digits-mod}
 use lib.ListN.{length, getD, take, drop, replicate}
 use lib.Seq.{take-suc, getD-take, getD-drop}
 use Rattle.bits.specs.Bits.{lowBits, got, pull}
 use Rattle.bits.proofs.BitLaws.{pull-low, pull-short}
-use Rattle.grid.specs.Grid.{boxed}
-use Rattle.grid.proofs.Upd.{getD-upd}
-use Rattle.grid.proofs.Box.{cell-lt, boxed-in}
-use Rattle.strip.specs.Strip.{Strip, refused, pixels, go, runPixels, runOp, opOf, prepend, decode}
+use Rattle.strip.specs.Strip.{Strip, refused, values, go, runPixels, runOp, opOf, prepend, decode}
 use Rattle.strip.specs.Strip as strip
 use Rattle.strip.specs.Picture.{sourceOf, upTo, placed, Picture, refusal, picture, kindOf, rawOf, shown, byKind, stripOf}
 use Rattle.strip.specs.declared.Kind.{Kind}
 use Rattle.strip.specs.declared.Kind.the-variants.{Raw, Coded}
 use Rattle.strip.proofs.StripLaws.{decode-op, decode-past, decode-refuse}
 use Rattle.strip.proofs.PictureLaws.{getD-upTo, raw-short, raw-full, coded-none, coded-some, strip-none, strip-some}
-use Rattle.table.specs.Body.{stripAt, pixelsOf, pixelAt}
-use Rattle.table.specs.Test.{pictureTest, stripTest}
+use Rattle.table.specs.Body.{pixelsOf}
+use Rattle.table.specs.Test.{pictureTest}
 use Rattle.table.specs.declared.Test.the-variants.{Passed}
-use Rattle.table.proofs.BlockLaws.{not-passed, block-strip}
+use Rattle.table.proofs.BlockLaws.{not-passed}
 use Rattle.room.specs.Test.{strips}
-use Rattle.room.specs.declared.Room.{Room}
-use Rattle.room.specs.declared.Tested.the-variants.{Right}
-use Rattle.room.proofs.TestLaws.{test-passes, surfaces-long}
-use Rattle.load.specs.Load.{sessionSize, background, loadedPixels, loadTest, pixelsAfter}
-use Rattle.load.proofs.LoadLaws.{background-passes}
-use Rattle.demands.specs.Demand2.{bodyIn, operations, runHead, RunGives}
+use Rattle.demands.specs.Demand2.{operations}
+use Rattle.demands.specs.Request5.{runHead, RunGives}
 
 -- ---- raw strips
 
@@ -71,7 +62,7 @@ raw-some [] code = absurd (omega (arith, code))
 raw-some (c ∷ t) code = omega arith
 
 -- a pixel of a raw strip that passes
-raw-pixel : (h : ℕ) (s : List ℕ) → getD s 0 0 ≡ 0x01 → pictureTest (stripOf h s) ≡ Passed → (j : ℕ) → j < 8 * h
+pub raw-pixel : (h : ℕ) (s : List ℕ) → getD s 0 0 ≡ 0x01 → pictureTest (stripOf h s) ≡ Passed → (j : ℕ) → j < 8 * h
     → getD (pixelsOf (stripOf h s)) j 0 ≡ getD s (1 + j) 0
 raw-pixel h s code passed j lt =
     let some = raw-some s code in
@@ -89,25 +80,25 @@ unfolding placed
 placed-pixel vertical h xs j lt = getD-upTo (λ i. getD xs (sourceOf vertical h i) 0) (8 * h) j lt
 
 shown-pixel : (vertical clear : Bool) (h : ℕ) (x : Strip) → pictureTest (shown vertical clear h x) ≡ Passed → (j : ℕ) → j < 8 * h
-    → (xs : List ℕ) × (x ≡ pixels xs) × (getD (pixelsOf (shown vertical clear h x)) j 0 ≡ getD xs (sourceOf vertical h j) 0)
+    → (xs : List ℕ) × (x ≡ values xs) × (getD (pixelsOf (shown vertical clear h x)) j 0 ≡ getD xs (sourceOf vertical h j) 0)
 shown-pixel vertical clear h (refused n) passed j lt = absurd (not-passed n passed)
-shown-pixel vertical clear h (pixels xs) passed j lt = (xs, refl, placed-pixel vertical h xs j lt)
+shown-pixel vertical clear h (values xs) passed j lt = (xs, refl, placed-pixel vertical h xs j lt)
 
 module _ (second vertical clear : Bool) (w h : ℕ) (s : List ℕ) (kind : kindOf (getD s 0 0) ≡ Coded second vertical clear w) where
-  coded-short : length s < 2 → stripOf h s ≡ refusal 7
+  pub coded-short : length s < 2 → stripOf h s ≡ refusal 7
   coded-short few =
       by-cases (decLt (length s) 1)
       (λ none. strip-none h s none)
       (λ some.
       strip-some h s (omega (arith, some)) ∙ ap (λ (k : Kind). byKind h (drop 1 s) k) kind ∙ coded-none second vertical clear w h s few)
 
-  coded-whole : 2 ≤ length s → stripOf h s ≡ shown vertical clear h (operations second w h s)
+  pub coded-whole : 2 ≤ length s → stripOf h s ≡ shown vertical clear h (operations second w h s)
   coded-whole many =
       strip-some h s (omega arith) ∙ ap (λ (k : Kind). byKind h (drop 1 s) k) kind ∙ coded-some second vertical clear w h s many
 
   -- a pixel of a coded strip that passes
-  coded-pixel : pictureTest (stripOf h s) ≡ Passed → (j : ℕ) → j < 8 * h
-      → (xs : List ℕ) × (operations second w h s ≡ pixels xs) × (getD (pixelsOf (stripOf h s)) j 0 ≡ getD xs (sourceOf vertical h j) 0)
+  pub coded-pixel : pictureTest (stripOf h s) ≡ Passed → (j : ℕ) → j < 8 * h
+      → (xs : List ℕ) × (operations second w h s ≡ values xs) × (getD (pixelsOf (stripOf h s)) j 0 ≡ getD xs (sourceOf vertical h j) 0)
   coded-pixel passed j lt =
       by-cases (decLt (length s) 2)
       (λ few. absurd (not-passed 7 (sym (ap pictureTest (coded-short few)) ∙ passed)))
@@ -115,60 +106,6 @@ module _ (second vertical clear : Bool) (w h : ℕ) (s : List ℕ) (kind : kindO
       let whole = coded-whole (omega (arith, many)) in
       let read = shown-pixel vertical clear h (operations second w h s) (sym (ap pictureTest whole) ∙ passed) j lt in
       (read .0, read .1, ap (λ (p : Picture). getD (pixelsOf p) j 0) whole ∙ read .2))
-
--- ---- what a load leaves
-
-module _ (s : List ℕ) (r : Room) (pixels : List ℕ) (x y : ℕ) (in-x : x < r .width) (in-y : y < r .height) where
-  loaded-pixel : r .width * r .height ≤ length pixels → getD (loadedPixels s r pixels) (y * r .width + x) 0 ≡ background s r x y
-  unfolding loadedPixels
-  loaded-pixel long =
-      let w = r .width in
-      let i = y * w + x in
-      let row : i / w ≡ y = digits-div y in-x in
-      let column : i % w ≡ x = digits-mod y in-x in
-      let f : ℕ → ℕ → ℕ → ℕ = λ a b o. background s r a b in
-      getD-upd (boxed w 0 0 w (r .height) f) pixels i (omega (arith, cell-lt w (r .height) x y in-x in-y))
-      ∙ boxed-in w 0 0 w (r .height) f i (getD pixels i 0) (omega arith) (omega (arith, row)) (omega arith) (omega (arith, column))
-      ∙ (let dx : i % w - 0 ≡ x = omega (arith, column) in let dy : i / w - 0 ≡ y = omega (arith, row) in λ k. background s r (dx k) (dy k))
-
-  raw-background : stripTest false (strips r) (r .height) s (r .smap) (r .«smap_end») (x / 8) ≡ Passed → getD (bodyIn s r (x / 8)) 0 0 ≡ 0x01
-      → background s r x y ≡ getD (bodyIn s r (x / 8)) (1 + (8 * y + x % 8)) 0
-  unfolding background pixelAt stripAt stripTest
-  raw-background passed code = raw-pixel (r .height) (bodyIn s r (x / 8)) code passed (8 * y + x % 8) (omega arith)
-
-  coded-background : stripTest false (strips r) (r .height) s (r .smap) (r .«smap_end») (x / 8) ≡ Passed
-      → (second vertical clear : Bool) (w : ℕ) → kindOf (getD (bodyIn s r (x / 8)) 0 0) ≡ Coded second vertical clear w
-      → (xs : List ℕ) × (operations second w (r .height) (bodyIn s r (x / 8)) ≡ strip.pixels xs)
-      × (background s r x y ≡ getD xs (sourceOf vertical (r .height) (8 * y + x % 8)) 0)
-  unfolding background pixelAt stripAt stripTest
-  coded-background passed second vertical clear w kind =
-      coded-pixel second vertical clear w (r .height) (bodyIn s r (x / 8)) kind passed (8 * y + x % 8) (omega arith)
-
-module _ (room session pixels masks : List ℕ) (r : Room) (accepted : Right r ≡ loadTest room session pixels masks) (x y : ℕ) (in-x : x < r .width)
-    (in-y : y < r .height) where
-  strip-right : stripTest false (strips r) (r .height) room (r .smap) (r .«smap_end») (x / 8) ≡ Passed
-  strip-right =
-      let passes = test-passes _ room r accepted in
-      block-strip false (strips r) (r .height) room (r .smap) (r .«smap_end») (background-passes room r (passes .pictures)) (x / 8) (omega arith)
-
-  left-pixel : getD (pixelsAfter room (loadTest room session pixels masks) pixels) (y * r .width + x) 0 ≡ background room r x y
-  left-pixel =
-      let passes = test-passes _ room r accepted in
-      let long = surfaces-long sessionSize (length session) (length pixels) (length masks) r (passes .enough) .1 in
-      ap (λ t. getD (pixelsAfter room t pixels) (y * r .width + x) 0) (sym accepted) ∙ loaded-pixel room r pixels x y in-x in-y long
-
-  pub raw-loaded : getD (bodyIn room r (x / 8)) 0 0 ≡ 0x01
-      → getD (pixelsAfter room (loadTest room session pixels masks) pixels) (y * r .width + x) 0 ≡ getD (bodyIn room r (x / 8)) (1 + 8 * y + x % 8) 0
-  raw-loaded code =
-      let place : 1 + (8 * y + x % 8) ≡ 1 + 8 * y + x % 8 = omega arith in
-      left-pixel ∙ raw-background room r pixels x y in-x in-y strip-right code ∙ ap (λ (j : ℕ). getD (bodyIn room r (x / 8)) j 0) place
-
-  pub coded-loaded : (second vertical clear : Bool) (w : ℕ) → kindOf (getD (bodyIn room r (x / 8)) 0 0) ≡ Coded second vertical clear w
-      → (xs : List ℕ) × (operations second w (r .height) (bodyIn room r (x / 8)) ≡ strip.pixels xs)
-      × (getD (pixelsAfter room (loadTest room session pixels masks) pixels) (y * r .width + x) 0 ≡ getD xs (sourceOf vertical (r .height) (8 * y + x % 8)) 0)
-  coded-loaded second vertical clear w kind =
-      let read = coded-background room r pixels x y in-x in-y strip-right second vertical clear w kind in
-      (read .0, read .1, left-pixel ∙ read .2)
 
 -- ---- runs
 

@@ -5,7 +5,7 @@ use Prim.Native.Nat.{ℕ}
 use lib.ListN.{replicate}
 use lib.Dec.{eqb, T}
 use Rattle.bits.specs.Bits.{lowBits, bitsOf}
-use Rattle.strip.specs.Strip.{Strip, refused, pixels, decode}
+use Rattle.strip.specs.Strip.{Strip, refused, values, decode}
 use Rattle.strip.specs.Picture.{Picture, refusal, picture, fiveFrom, kindOf, placed, rawOf, codedOf, stripOf}
 use Rattle.plane.specs.Mask.{literals, rowsOf}
 use Rattle.table.specs.Table.{offsetAt}
@@ -41,11 +41,11 @@ is-refusal (picture clear xs) n = false
 
 is-rows : Strip → List ℕ → Bool
 is-rows (refused n) px = false
-is-rows (pixels xs) px = same xs px
+is-rows (values xs) px = same xs px
 
 is-refused : Strip → ℕ → Bool
 is-refused (refused m) n = eqb m n
-is-refused (pixels xs) n = false
+is-refused (values xs) n = false
 
 holds : Row → Bool
 holds (shows h body px) = is-picture (stripOf h body) px

@@ -1,3 +1,11 @@
+pub mod Written
 pub mod Demand1
 pub mod Demand2
 pub mod Demand3
+pub mod Request2
+pub mod Request5
+pub mod PictureRefusals
+pub mod RoomRefusals
+pub mod CostumeRefusals
+pub mod Refusals
+pub mod Numbers

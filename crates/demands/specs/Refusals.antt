@@ -1,0 +1,267 @@
+-- Document 01's table "Numbered refusals": each number, "given exactly when". A field says it of what a call's contract promises, and its conditions
+-- name what stands before that number in document 01's order, so the order follows. The table's line stands above the fields of its number.
+use Prim.Native.Nat.{ℕ, _+_, _*_, _/_, _≤_, _<_}
+use mathlib.Core.Path.{_≡_}
+use mathlib.Core.Bool.{Bool, true, false}
+use mathlib.Core.List.{List, []}
+use mathlib.Core.Logic.{_↔_, _⊎_}
+use lib.Dec.{eqb}
+use lib.ListN.{length}
+use Rattle.block.specs.Tag.{tag-SMAP}
+use Rattle.block.specs.Tree.{wellFormed, findTag}
+use Rattle.block.specs.declared.Found.the-variants.{At}
+use Rattle.block.specs.declared.Found.the-variants as found
+use Rattle.table.specs.Table.{bodiless, tableRight}
+use Rattle.table.specs.Table as table
+use Rattle.table.specs.Body.{bodyOf}
+use Rattle.table.specs.Test.{stripTest, blockTest}
+use Rattle.table.specs.declared.Test.the-variants.{Refused}
+use Rattle.room.specs.Head.{neededIn, objectsRight, sizesRight, roomOf}
+use Rattle.room.specs.Test.{strips, short, roomTest, numberOf, nothing, fixedOnly, withSurfaces, withFlags}
+use Rattle.room.specs.declared.Lent.{Lent}
+use Rattle.room.specs.declared.Parts.{Parts}
+use Rattle.room.specs.declared.Needed.the-variants.{All, Missing}
+use Rattle.room.specs.declared.Room.{Room}
+use Rattle.room.specs.declared.Tested.the-variants.{Right}
+use Rattle.objects.specs.Object.{objectBlock, placeNumber, headerCall}
+use Rattle.objects.specs.Name.{nameNumber}
+use Rattle.image.specs.Image.{imageWidth, imageHeight, stateBlock, drawable}
+use Rattle.scene.specs.declared.Call.{Call}
+use Rattle.scene.specs.declared.Call.the-variants.{Make, TakeBack}
+use Rattle.scene.specs.declared.Entry.{Entry}
+use Rattle.scene.specs.declared.Place.{Place}
+use Rattle.scene.specs.declared.Step.{Step}
+use Rattle.scene.specs.declared.Step.the-variants.{Draw, Hide}
+use Rattle.scene.specs.Painting as scene
+use Rattle.scene.specs.Steps.{some, entryOf, allowed, mostSteps}
+use Rattle.scene.specs.Session.{Session, rightFor, sceneOf}
+use Rattle.stored.specs.Bytes.{sessionOf}
+use Rattle.layers.specs.Decoded.{decoded}
+use Rattle.play.specs.Bytes as play
+use Rattle.point.specs.Call.{pointedAt}
+use Rattle.point.specs.Call as point
+use Rattle.actor.specs.Sizes.{sizesFit, pictureFits, maskBytes}
+use Rattle.actor.specs.Hidden.{hiddenOf}
+use Rattle.actor.specs.Hidden as actor
+use Rattle.actor.specs.Stamp.{stampNumber}
+use Rattle.limbs.specs.Limb.{placesRight, limbsRight, drawnOf}
+use Rattle.limbs.specs.Limb as limb
+use Rattle.limbs.specs.Tick.{commandRight, stream, tickNumber}
+use Rattle.costume.specs.Start as start
+use Rattle.costume.specs.Start.{numbersRight, offsetAt, offsetRight, startedOf}
+use Rattle.block_writer.specs.Block.{smapBlock, planeBlock}
+use Rattle.block_writer.specs.Call.{sizesAllowed, smapOutcome, planeOutcome, answerOf}
+use Rattle.block_writer.specs.Call as writer
+use Rattle.stored.specs.Layout.{sessionSize}
+use Rattle.demands.specs.RoomRefusals.{NotOneRoom, NeededMissing, ObjectLacks, OutOfSizes, OutOfRange, OutOfPicture, TableBad, OtherSession}
+use Rattle.demands.specs.RoomRefusals.{NotDrawable, NotAllowed}
+use Rattle.demands.specs.CostumeRefusals.{NumbersWrong, CommandWrong, RecordWrong, SomePlaceWrong, SomeLimbWrong}
+use Rattle.demands.specs.PictureRefusals.{Picture, UnknownCode, BytesRunOut, PassesEnd, StripFault, BlockFault, TableWrong, AtStrip}
+use Rattle.demands.specs.PictureRefusals.{AllPass, pictureOf}
+
+-- ---- rooms: "Every call that takes room bytes tests the whole room as the load does." `roomTest lent s` is that test of the bytes s by a call that
+-- is lent buffers of the lengths `lent`
+
+-- the bytes are blocks (1), and the needed ones are there (2): p says where
+abbrev pub Blocks : List ℕ → Parts → Type 0
+Blocks s p = (wellFormed s ≡ true) × (neededIn s ≡ All p) × (objectsRight s ≡ true)
+
+-- what they say of W, H, N and the objects is inside the sizes
+abbrev pub inSizes : Room → Bool
+inSizes r = sizesRight (r .width) (r .height) (r .planes) (r .objects)
+
+-- 1, 2 and 3 aren't given, and the room is r
+abbrev pub Sized : List ℕ → Room → Type 0
+Sized s r = (p : Parts) × Blocks s p × (roomOf s p ≡ r) × (inSizes r ≡ true)
+
+-- nor is 4, and P holds of the room
+abbrev pub AtRoom : Lent → List ℕ → (Room → Type 0) → Type 0
+AtRoom lent s P = (r : Room) × Sized s r × (short lent r ≡ false) × P r
+
+-- the room passes its test, and P holds of it
+abbrev pub Passing : Lent → List ℕ → (Room → Type 0) → Type 0
+Passing lent s P = (r : Room) × (roomTest lent s ≡ Right r) × P r
+
+-- ---- sessions: kg_draw_last, kg_draw_at, kg_hide, kg_take_back on the lent bytes b
+
+-- the session's bytes, read for this room
+abbrev pub sessionIn : List ℕ → Room → play.Lent → Session
+sessionIn s r b = sessionOf (decoded s r) (b .session)
+
+-- the room passes, the session is one that it gives, and P holds
+abbrev pub AtSession : List ℕ → play.Lent → (Room → Session → Type 0) → Type 0
+AtSession s b P = (r : Room) × (play.callTest s b ≡ Right r) × (rightFor (decoded s r) (sessionIn s r b) ≡ true) × P r (sessionIn s r b)
+
+-- and the history has room for a step
+abbrev pub AtStep : List ℕ → play.Lent → (Room → Session → Type 0) → Type 0
+AtStep s b P = AtSession s b λ r ss. (length (ss .history) < mostSteps) × P r ss
+
+-- the place of a draw is allowed
+abbrev pub placeAllowed : List ℕ → Room → Session → (o st : ℕ) → Place → Bool
+placeAllowed s r ss o st p = allowed (decoded s r) (entryOf (sceneOf (decoded s r) ss) o st p)
+
+-- 9 to 12 aren't given to the draw, whose image's block stands in [b, z), and P holds
+abbrev pub AtImage : List ℕ → play.Lent → (o st : ℕ) → Place → (Room → (b z : ℕ) → Type 0) → Type 0
+AtImage s l o st p P =
+    AtStep s l λ r ss.
+    (drawable s o st ≡ true) × (placeAllowed s r ss o st p ≡ true) × ((b : ℕ) × (z : ℕ) × (stateBlock s o st ≡ At b z) × P r b z)
+
+-- the image of object o there, with its SMAP block in [smap, last): "An image has IMHD's width / 8 strips of IMHD's height."
+abbrev pub imageOf : List ℕ → Room → (o b z smap last : ℕ) → Picture
+imageOf s r o b z smap last =
+    record {
+      planes = r .planes;
+      width = imageWidth s o / 8;
+      height = imageHeight s o;
+      start = b + 8;
+      end = z;
+      smap = smap;
+      last = last;
+    }
+
+abbrev pub AtPicture : List ℕ → play.Lent → (o st : ℕ) → Place → (Picture → Type 0) → Type 0
+AtPicture s l o st p P =
+    AtImage s l o st p λ r b z. (smap : ℕ) × (last : ℕ) × (findTag tag-SMAP s (b + 8) z ≡ At smap last) × P (imageOf s r o b z smap last)
+
+abbrev pub drawNumber : List ℕ → play.Lent → (o st : ℕ) → Place → ℕ
+drawNumber s b o st p = play.numberOf s b (Make (Draw o st p))
+
+-- ---- the table
+
+pub record Refusals : Type 0 where
+  -- 0, accepted: none of 1 to 8 holds of the room
+  pub accepted : (lent : Lent) (s : List ℕ) (r : Room)
+      → (roomTest lent s ≡ Right r) ↔ (Sized s r × (short lent r ≡ false) × AllPass s (pictureOf r))
+  -- and neither 9 to 13 of the call, nor 2 and 5 to 8 of a draw's image
+  pub accepted-draw : (s : List ℕ) (l : play.Lent) (o st : ℕ) (p : Place) → (drawNumber s l o st p ≡ 0) ↔ AtPicture s l o st p (λ image. AllPass s image)
+  pub accepted-hide : (s : List ℕ) (b : play.Lent) (o : ℕ)
+      → (play.numberOf s b (Make (Hide o)) ≡ 0) ↔ AtStep s b (λ r ss. some (λ e. eqb (e .object) o) (ss .shown) ≡ true)
+  pub accepted-take-back : (s : List ℕ) (b : play.Lent) → (play.numberOf s b TakeBack ≡ 0) ↔ AtSession s b (λ r ss. ss .history ≡ [] → ⊥)
+  -- 1: "the slice isn't one ROOM block filling it, is over the size, a block size is below 8 or passes its parent, children don't fill a container, or
+  -- a block stands at depth 7"
+  pub one : (lent : Lent) (s : List ℕ) → (numberOf (roomTest lent s) ≡ 1) ↔ (wellFormed s ≡ false)
+  -- in these words
+  pub not-one-room : (s : List ℕ) → (wellFormed s ≡ false) ↔ NotOneRoom s
+  -- 2: "a needed block is missing or shorter than its fixed fields"
+  pub two : (lent : Lent) (s : List ℕ)
+      → (numberOf (roomTest lent s) ≡ 2) ↔ ((wellFormed s ≡ true) × ((neededIn s ≡ Missing) ⊎ (objectsRight s ≡ false)))
+  pub needed-missing : (s : List ℕ) → (neededIn s ≡ Missing) ↔ NeededMissing s
+  pub object-lacks : (s : List ℕ) → (objectsRight s ≡ false) ↔ ObjectLacks s
+  pub two-draw : (s : List ℕ) (l : play.Lent) (o st : ℕ) (p : Place)
+      → (drawNumber s l o st p ≡ 2)
+      ↔ ((numberOf (play.callTest s l) ≡ 2) ⊎ AtImage s l o st p (λ r b z. findTag tag-SMAP s (b + 8) z ≡ found.Missing))
+  -- 3: "W, H, N, the object count or a picture size is outside the sizes above"
+  pub three : (lent : Lent) (s : List ℕ) → (numberOf (roomTest lent s) ≡ 3) ↔ ((p : Parts) × Blocks s p × (inSizes (roomOf s p) ≡ false))
+  pub out-of-sizes : (r : Room) → (inSizes r ≡ false) ↔ OutOfSizes r
+  pub three-hidden : (masks : List ℕ) (w h n clip x y : ℕ) → (actor.number (hiddenOf masks w h n clip x y) ≡ 3) ↔ (sizesFit w h n ≡ false)
+  pub three-stamp : (frame masks picture w h n width height : ℕ)
+      → (stampNumber frame masks picture w h n width height ≡ 3) ↔ ((sizesFit w h n ≡ false) ⊎ (pictureFits width height ≡ false))
+  pub three-smap : (w h : ℕ) (rows : List ℕ) (size : ℕ) → (writer.number (answerOf (smapOutcome w h rows size)) ≡ 3) ↔ (sizesAllowed w h ≡ false)
+  pub three-plane : (k w h : ℕ) (rows : List ℕ) (size : ℕ)
+      → (writer.number (answerOf (planeOutcome k w h rows size)) ≡ 3) ↔ ((sizesAllowed w h ≡ false) ⊎ (k < 1) ⊎ (4 < k))
+  pub sizes-fit : (w h n : ℕ) → (sizesFit w h n ≡ false) ↔ (OutOfRange w h ⊎ (4 < n))
+  pub picture-fits : (width height : ℕ) → (pictureFits width height ≡ false) ↔ OutOfPicture width height
+  pub sizes-allowed : (w h : ℕ) → (sizesAllowed w h ≡ false) ↔ OutOfRange w h
+  -- 4: "a lent buffer is shorter than the call needs"
+  pub four : (lent : Lent) (s : List ℕ) → (numberOf (roomTest lent s) ≡ 4) ↔ ((r : Room) × Sized s r × (short lent r ≡ true))
+  -- what a call needs: a record or header of 16 bytes; a session of 450 bytes, with pixels W × H and masks N × S × H, or with a flag byte per object
+  pub short-fixed : (size n : ℕ) (r : Room) → (short (fixedOnly size n) r ≡ true) ↔ (n < size)
+  pub short-surfaces : (size n pixels masks : ℕ) (r : Room)
+      → (short (withSurfaces size n pixels masks) r ≡ true)
+      ↔ ((n < size) ⊎ (pixels < r .width * r .height) ⊎ (masks < strips r * (r .planes * r .height)))
+  pub short-flags : (size n flags : ℕ) (r : Room) → (short (withFlags size n flags) r ≡ true) ↔ ((n < size) ⊎ (flags < r .objects))
+  pub four-hidden : (masks : List ℕ) (w h n clip x y : ℕ)
+      → (actor.number (hiddenOf masks w h n clip x y) ≡ 4) ↔ ((sizesFit w h n ≡ true) × (length masks < maskBytes w h n))
+  pub four-stamp : (frame masks picture w h n width height : ℕ)
+      → (stampNumber frame masks picture w h n width height ≡ 4)
+      ↔ ((sizesFit w h n ≡ true) × (pictureFits width height ≡ true)
+      × ((frame < w * h) ⊎ (masks < maskBytes w h n) ⊎ (picture < width * height)))
+  pub four-start : (s l : List ℕ) (t count v chore direction : ℕ) → (start.number (startedOf s l t count v chore direction) ≡ 4) ↔ (length l < 256)
+  pub four-tick : (s l : List ℕ) (v : ℕ) → (tickNumber s l v ≡ 4) ↔ (length l < 256)
+  pub four-draws : (l : List ℕ) (i : ℕ) → (limb.number (drawnOf l i) ≡ 4) ↔ (length l < 256)
+  pub four-smap : (w h : ℕ) (rows : List ℕ) (size : ℕ)
+      → (writer.number (answerOf (smapOutcome w h rows size)) ≡ 4)
+      ↔ ((sizesAllowed w h ≡ true) × ((length rows < h * (8 * (w / 8))) ⊎ (size < length (smapBlock (w / 8) h rows))))
+  pub four-plane : (k w h : ℕ) (rows : List ℕ) (size : ℕ)
+      → (writer.number (answerOf (planeOutcome k w h rows size)) ≡ 4)
+      ↔ ((sizesAllowed w h ≡ true) × (1 ≤ k) × (k ≤ 4) × ((length rows < h * (w / 8)) ⊎ (size < length (planeBlock k (w / 8) h rows))))
+  -- 5: "a strip table doesn't fit its block, or an offset is wrong"
+  pub five : (lent : Lent) (s : List ℕ) → (numberOf (roomTest lent s) ≡ 5) ↔ AtRoom lent s (λ r. TableWrong s (pictureOf r))
+  pub table-bad : (mask : Bool) (n : ℕ) (s : List ℕ) (b z : ℕ) → (tableRight mask n s b z ≡ false) ↔ TableBad mask n s b z
+  pub five-draw : (s : List ℕ) (l : play.Lent) (o st : ℕ) (p : Place)
+      → (drawNumber s l o st p ≡ 5) ↔ ((numberOf (play.callTest s l) ≡ 5) ⊎ AtPicture s l o st p (λ image. TableWrong s image))
+  -- 6: "unknown strip code"
+  pub six : (lent : Lent) (s : List ℕ) → (numberOf (roomTest lent s) ≡ 6) ↔ AtRoom lent s (λ r. AtStrip s (pictureOf r) UnknownCode)
+  pub six-draw : (s : List ℕ) (l : play.Lent) (o st : ℕ) (p : Place)
+      → (drawNumber s l o st p ≡ 6) ↔ ((numberOf (play.callTest s l) ≡ 6) ⊎ AtPicture s l o st p (λ image. AtStrip s image UnknownCode))
+  -- 7: "strip bytes run out"
+  pub seven : (lent : Lent) (s : List ℕ) → (numberOf (roomTest lent s) ≡ 7) ↔ AtRoom lent s (λ r. AtStrip s (pictureOf r) BytesRunOut)
+  pub seven-draw : (s : List ℕ) (l : play.Lent) (o st : ℕ) (p : Place)
+      → (drawNumber s l o st p ≡ 7) ↔ ((numberOf (play.callTest s l) ≡ 7) ⊎ AtPicture s l o st p (λ image. AtStrip s image BytesRunOut))
+  -- 8: "an operation passes the end of the strip"
+  pub eight : (lent : Lent) (s : List ℕ) → (numberOf (roomTest lent s) ≡ 8) ↔ AtRoom lent s (λ r. AtStrip s (pictureOf r) PassesEnd)
+  pub eight-draw : (s : List ℕ) (l : play.Lent) (o st : ℕ) (p : Place)
+      → (drawNumber s l o st p ≡ 8) ↔ ((numberOf (play.callTest s l) ≡ 8) ⊎ AtPicture s l o st p (λ image. AtStrip s image PassesEnd))
+  -- the strips and blocks before that pass: which strip or block doesn't, and with what number
+  pub strip-refused : (mask : Bool) (n h : ℕ) (s : List ℕ) (b z k r : ℕ)
+      → (stripTest mask n h s b z k ≡ Refused r) ↔ ((bodiless mask (table.offsetAt mask s b k) ≡ false) × StripFault mask h (bodyOf mask n s b z k) r)
+  pub block-refused : (mask : Bool) (n h : ℕ) (s : List ℕ) (b z r : ℕ) → (blockTest mask n h s b z ≡ Refused r) ↔ BlockFault mask n h s b z r
+  -- 9: "the session isn't one that this room gives"
+  pub nine : (s : List ℕ) (b : play.Lent) (c : Call)
+      → (play.numberOf s b c ≡ 9) ↔ ((r : Room) × (play.callTest s b ≡ Right r) × (rightFor (decoded s r) (sessionIn s r b) ≡ false))
+  pub other-session : (room : scene.Room) (ss : Session) → (rightFor room ss ≡ false) ↔ OtherSession room ss
+  pub nine-point : (s session flags : List ℕ) (x y : ℕ)
+      → (point.number (pointedAt s session flags x y) ≡ 9)
+      ↔ Passing (withFlags sessionSize (length session) (length flags)) s (λ r. rightFor (decoded s r) (sessionOf (decoded s r) session) ≡ false)
+  -- 10: "the history holds 64 steps"
+  pub ten : (s : List ℕ) (b : play.Lent) (st : Step) → (play.numberOf s b (Make st) ≡ 10) ↔ AtSession s b (λ r ss. mostSteps ≤ length (ss .history))
+  -- 11: "no such object, image state or shown entry"
+  pub eleven-draw : (s : List ℕ) (b : play.Lent) (o st : ℕ) (p : Place)
+      → (drawNumber s b o st p ≡ 11) ↔ AtStep s b (λ r ss. drawable s o st ≡ false)
+  pub not-drawable : (s : List ℕ) (o st : ℕ) → (drawable s o st ≡ false) ↔ NotDrawable s o st
+  pub eleven-hide : (s : List ℕ) (b : play.Lent) (o : ℕ)
+      → (play.numberOf s b (Make (Hide o)) ≡ 11) ↔ AtStep s b (λ r ss. some (λ e. eqb (e .object) o) (ss .shown) ≡ false)
+  pub eleven-header : (s lent : List ℕ) (k : ℕ)
+      → (placeNumber (headerCall s lent k) ≡ 11) ↔ Passing (fixedOnly 16 (length lent)) s (λ r. objectBlock s k ≡ found.Missing)
+  pub eleven-name : (s : List ℕ) (k : ℕ) → (nameNumber s k ≡ 11) ↔ Passing nothing s (λ r. objectBlock s k ≡ found.Missing)
+  -- 12: "the place isn't allowed"
+  pub twelve : (s : List ℕ) (b : play.Lent) (o st : ℕ) (p : Place)
+      → (drawNumber s b o st p ≡ 12) ↔ AtStep s b (λ r ss. (drawable s o st ≡ true) × (placeAllowed s r ss o st p ≡ false))
+  pub not-allowed : (room : scene.Room) (e : Entry) → (allowed room e ≡ false) ↔ NotAllowed room e
+  -- 13: "nothing to take back"
+  pub thirteen : (s : List ℕ) (b : play.Lent) → (play.numberOf s b TakeBack ≡ 13) ↔ AtSession s b (λ r ss. ss .history ≡ [])
+  -- 14: "the point is outside the room"
+  pub fourteen : (s session flags : List ℕ) (x y : ℕ)
+      → (point.number (pointedAt s session flags x y) ≡ 14)
+      ↔ Passing (withFlags sessionSize (length session) (length flags)) s
+      (λ r. (rightFor (decoded s r) (sessionOf (decoded s r) session) ≡ true) × ((r .width ≤ x) ⊎ (r .height ≤ y)))
+  pub fourteen-hidden : (masks : List ℕ) (w h n clip x y : ℕ)
+      → (actor.number (hiddenOf masks w h n clip x y) ≡ 14)
+      ↔ ((sizesFit w h n ≡ true) × (maskBytes w h n ≤ length masks) × ((w ≤ x) ⊎ (h ≤ y)))
+  -- 15: "an animation number, record, window or limb state is wrong"
+  pub fifteen-start : (s l : List ℕ) (t count v chore direction : ℕ)
+      → (start.number (startedOf s l t count v chore direction) ≡ 15)
+      ↔ ((256 ≤ length l)
+      × ((numbersRight s t count chore direction ≡ false) ⊎ (commandRight s v ≡ false) ⊎ (limbsRight (length (stream s v)) l ≡ false)
+      ⊎ (offsetRight s (offsetAt s t chore direction) (length (stream s v)) ≡ false)))
+  pub fifteen-tick : (s l : List ℕ) (v : ℕ)
+      → (tickNumber s l v ≡ 15) ↔ ((256 ≤ length l) × ((commandRight s v ≡ false) ⊎ (limbsRight (length (stream s v)) l ≡ false)))
+  -- kg_limb_draws: no stream is lent to it, so the windows' ends aren't tested
+  pub fifteen-draws : (l : List ℕ) (i : ℕ) → (limb.number (drawnOf l i) ≡ 15) ↔ ((256 ≤ length l) × ((15 < i) ⊎ (placesRight l ≡ false)))
+  pub numbers-wrong : (s : List ℕ) (t count chore direction : ℕ) → (numbersRight s t count chore direction ≡ false) ↔ NumbersWrong s t count chore direction
+  pub command-wrong : (s : List ℕ) (v : ℕ) → (commandRight s v ≡ false) ↔ CommandWrong s v
+  pub place-wrong : (l : List ℕ) → (placesRight l ≡ false) ↔ SomePlaceWrong l
+  pub limb-wrong : (n : ℕ) (l : List ℕ) → (limbsRight n l ≡ false) ↔ SomeLimbWrong n l
+  pub record-wrong : (s : List ℕ) (o n : ℕ) → (offsetRight s o n ≡ false) ↔ RecordWrong s o n
+  -- "Order: 1, 2, 3, 4 for the room", then the pictures, and only then 9 to 14 and an image: a call gives each of the room's numbers where its test does.
+  -- A draw gives 2 and 5 to 8 for its image too, as above
+  pub room-of-call : (s : List ℕ) (b : play.Lent) (c : Call) (n : ℕ) → 1 ≤ n → numberOf (play.callTest s b) ≡ n → play.numberOf s b c ≡ n
+  pub room-of-draw : (s : List ℕ) (b : play.Lent) (o st : ℕ) (p : Place) (n : ℕ) → (n ≡ 1) ⊎ (n ≡ 3) ⊎ (n ≡ 4)
+      → (drawNumber s b o st p ≡ n) ↔ (numberOf (play.callTest s b) ≡ n)
+  pub room-of-hide : (s : List ℕ) (b : play.Lent) (o n : ℕ) → 1 ≤ n → n ≤ 8 → (play.numberOf s b (Make (Hide o)) ≡ n) ↔ (numberOf (play.callTest s b) ≡ n)
+  pub room-of-take-back : (s : List ℕ) (b : play.Lent) (n : ℕ) → 1 ≤ n → n ≤ 8 → (play.numberOf s b TakeBack ≡ n) ↔ (numberOf (play.callTest s b) ≡ n)
+  pub room-of-point : (s session flags : List ℕ) (x y n : ℕ) → 1 ≤ n → n ≤ 8
+      → (point.number (pointedAt s session flags x y) ≡ n) ↔ (numberOf (roomTest (withFlags sessionSize (length session) (length flags)) s) ≡ n)
+  pub room-of-header : (s lent : List ℕ) (k n : ℕ) → 1 ≤ n → n ≤ 8
+      → (placeNumber (headerCall s lent k) ≡ n) ↔ (numberOf (roomTest (fixedOnly 16 (length lent)) s) ≡ n)
+  pub room-of-name : (s : List ℕ) (k n : ℕ) → 1 ≤ n → n ≤ 8 → (nameNumber s k ≡ n) ↔ (numberOf (roomTest nothing s) ≡ n)
