@@ -1,5 +1,5 @@
 -- Which pixels a clip level hides (document 01, "Actors, points, limbs" and "Sizes"; demand 2), and the call that asks it. Assumes nothing.
-use mathlib.Core.Bool.{Bool, true, false, _&&_, cond}
+use mathlib.Core.Bool.{Bool, false, _&&_, cond}
 use mathlib.Core.List.{List}
 use Prim.Native.Nat.{ℕ, _+_, _-_, _*_, _/_, _%_, _^_}
 use lib.Dec.{leb, ltb, eqb}

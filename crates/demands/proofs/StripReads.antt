@@ -11,7 +11,6 @@ use lib.Seq.{take-suc, getD-take, getD-drop}
 use Rattle.bits.specs.Bits.{lowBits, got, pull}
 use Rattle.bits.proofs.BitLaws.{pull-low, pull-short}
 use Rattle.strip.specs.Strip.{Strip, refused, values, go, runPixels, runOp, opOf, prepend, decode}
-use Rattle.strip.specs.Strip as strip
 use Rattle.strip.specs.Picture.{sourceOf, upTo, placed, Picture, refusal, picture, kindOf, rawOf, shown, byKind, stripOf}
 use Rattle.strip.specs.declared.Kind.{Kind}
 use Rattle.strip.specs.declared.Kind.the-variants.{Raw, Coded}
@@ -21,7 +20,6 @@ use Rattle.table.specs.Body.{pixelsOf}
 use Rattle.table.specs.Test.{pictureTest}
 use Rattle.table.specs.declared.Test.the-variants.{Passed}
 use Rattle.table.proofs.BlockLaws.{not-passed}
-use Rattle.room.specs.Test.{strips}
 use Rattle.demands.specs.Demand2.{operations}
 use Rattle.demands.specs.Request5.{runHead, RunGives}
 

@@ -7,11 +7,11 @@
 -- `answerOf` and `targetAfter` of the writers, `hiddenOf` of kg_hidden, `stampNumber` and `stampFrame` of kg_stamp.
 use Prim.Native.Nat.{ℕ, _+_, _-_, _*_, _/_, _%_, _≤_, _<_}
 use mathlib.Core.Path.{_≡_}
-use mathlib.Core.Bool.{Bool, true, false, cond}
+use mathlib.Core.Bool.{Bool, false, cond}
 use mathlib.Core.List.{List, _++_}
 use mathlib.Core.Logic.{_↔_}
 use lib.IntN.{ℤ, pos, _+ℤ_}
-use lib.ListN.{length, getD, take, drop, replicate}
+use lib.ListN.{length, getD, drop, replicate}
 use Rattle.number.specs.Buffer.{over}
 use Rattle.bits.specs.Bits.{bitsOf}
 use Rattle.strip.specs.Strip.{Strip, decode}

@@ -1,13 +1,13 @@
 -- Laws of the tables, and the bridge: a room that the tables tell has the steps, the replay and the refusals of the room made of them.
 -- Assumes nothing.
-use Prim.Native.Nat.{ℕ, _+_, _*_, _%_, _<_, _≤_}
+use Prim.Native.Nat.{ℕ, _+_, _*_, _<_, _≤_}
 use mathlib.Core.Path.{_≡_, refl, ap, ap₂, _∙_}
 use mathlib.Core.Bool.{Bool, true, false, cond, not, _&&_, _||_}
 use mathlib.Core.List.{List, [], _∷_, _++_}
 use lib.Dec.{eqb, leb}
 use lib.ListN.{getD, length}
 use native.Mathlib.Omega.{arith}
-use borrow.Author.Tests.{eq-eqb, ne-eqb, le-leb, lt-leb, lt-ltb, leb-true}
+use borrow.Author.Tests.{eq-eqb, ne-eqb, le-leb, lt-leb, leb-true}
 use Rattle.number.proofs.BoolLaws.{or-left, or-right}
 use Rattle.scene.specs.declared.Entry.{Entry}
 use Rattle.scene.specs.declared.Step.{Step}
@@ -18,7 +18,7 @@ use Rattle.scene.specs.Steps.{mostSteps}
 use Rattle.scene.specs.Steps.{replays}
 use Rattle.scene.proofs.Allowed.{Allowed, allowed-means, allowed-same}
 use Rattle.replay.specs.declared.Size.{Size}
-use Rattle.replay.specs.Tables.{cellOf, verdictOf, roomOfTables, Sizes, draws, names, sized, TablesAgree}
+use Rattle.replay.specs.Tables.{cellOf, verdictOf, roomOfTables, Sizes, draws, names, atCorner, sizeAllowed, TablesAgree}
 use Rattle.stored.specs.Bytes.{sessionOf}
 use Rattle.replay.specs.Replay.{no, ok, judged, groundOf}
 
@@ -88,14 +88,13 @@ module _ (room : Room) (e : Entry) (h : allowed room e ≡ true) where
   pub allowed-below : (e .y + t ≤ room .height) × (0 < t)
   allowed-below = (parts .inside .1, parts .sized .1)
 
-  allowed-sized : sized room (e .object) ≡ true
-  unfolding sized
-  allowed-sized =
+  allowed-size : sizeAllowed room (e .object) ≡ true
+  unfolding sizeAllowed
+  allowed-size =
       let r = allowed-right in
       let b = allowed-below in
-      let wl : w ≤ 8 * room .strips = omega arith in
-      let tl : t ≤ room .height = omega arith in
-      rw (eq-eqb (w % 8) 0 (parts .aligned .1), lt-ltb 0 w (r .1), lt-ltb 0 t (b .1), le-leb w (8 * room .strips) wl, le-leb t (room .height) tl)
+      allowed-means room (atCorner (e .object)) .1
+      (record { aligned = (refl, parts .aligned .1); sized = parts .sized; inside = (omega arith, omega arith) })
 
 -- a place that a table's image is allowed at: 128 strips and 200 rows at most
 pub allowed-bounds : (objects v : List ℕ) (size : Size) (e : Entry) → Sizes size → allowed (roomOfTables objects v size) e ≡ true → (e .x < 1024) × (e .y < 200)
@@ -148,7 +147,7 @@ module _ (room : Room) (objects verdicts : List ℕ) (size : Size) where
     unfolding roomOfTables
     drawable-same o s k = K .drawable o s k
 
-    fault-same : (o s : ℕ) → names steps o s ≡ true → room .drawable o s ≡ true → sized room o ≡ true → room .fault o s ≡ T .fault o s
+    fault-same : (o s : ℕ) → names steps o s ≡ true → room .drawable o s ≡ true → sizeAllowed room o ≡ true → room .fault o s ≡ T .fault o s
     unfolding roomOfTables
     fault-same o s k d z = K .fault o s k d z
 
@@ -173,7 +172,7 @@ module _ (room : Room) (objects verdicts : List ℕ) (size : Size) where
         let e = entryOf sc o s p in
         ap (λ (m : ℕ). cond (leb mostSteps n) 10 m)
         (draw-cases (room .drawable o s) (T .drawable o s) (allowed room e) (allowed T e) (room .fault o s) (T .fault o s)
-        (drawable-same o s k) (allowed-known e) (λ d a. fault-same o s k d (allowed-sized room e a)))
+        (drawable-same o s k) (allowed-known e) (λ d a. fault-same o s k d (allowed-size room e a)))
     refusal-same n sc (Hide o) known = refl
 
     pub judged-same : (n : ℕ) (sc : Scene) (st : Step) → ((o s : ℕ) → draws st o s ≡ true → names steps o s ≡ true)

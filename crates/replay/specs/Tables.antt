@@ -1,17 +1,19 @@
 -- The numbers that a caller has gathered of a room's objects, and the room that they tell (document 01, "Sessions"): a row of 8 numbers
 -- for each object (id, x, y, width, height, number of images, two more), and a byte for each object and state. Assumes nothing.
 -- For the proofs: no public promise rests on what this page says.
-use Prim.Native.Nat.{ℕ, _+_, _*_, _%_, _≤_}
+use Prim.Native.Nat.{ℕ, _+_, _*_, _≤_}
 use mathlib.Core.Path.{_≡_}
 use mathlib.Core.Bool.{Bool, true, false, cond, not, _&&_, _||_}
 use mathlib.Core.List.{List, [], _∷_}
-use lib.Dec.{eqb, leb, ltb}
+use lib.Dec.{eqb, leb}
 use lib.ListN.{getD, length}
 use Rattle.scene.specs.declared.Call.{Call}
 use Rattle.scene.specs.declared.Call.the-variants.{Make, TakeBack}
+use Rattle.scene.specs.declared.Entry.{Entry}
 use Rattle.scene.specs.declared.Step.{Step}
 use Rattle.scene.specs.declared.Step.the-variants.{Draw, Hide}
 use Rattle.scene.specs.Painting.{Room}
+use Rattle.scene.specs.Steps.{allowed}
 use Rattle.stored.specs.Layout.{sessionSize}
 use Rattle.replay.specs.declared.Size.{Size}
 
@@ -76,11 +78,12 @@ abbrev pub askedBy : Call → List Step → List Step
 askedBy (Make st) h = st ∷ h
 askedBy TakeBack h = h
 
--- the image's size alone gives no 12
-unfoldable pub sized : Room → ℕ → Bool
-sized room o =
-    eqb (room .width o % 8) 0 && ltb 0 (room .width o) && ltb 0 (room .tall o) && leb (room .width o) (8 * room .strips)
-    && leb (room .tall o) (room .height)
+-- the image's size alone gives no 12: it may stand at the room's upper left corner
+abbrev pub atCorner : ℕ → Entry
+atCorner o = record { object = o; state = 0; x = 0; y = 0 }
+
+unfoldable pub sizeAllowed : Room → ℕ → Bool
+sizeAllowed room o = allowed room (atCorner o)
 
 -- The tables tell what a room is: every object's row, and the verdicts of the images that the steps draw. The image's own refusal is
 -- asked only of an image whose size is allowed, for it is looked at after 12.
@@ -92,5 +95,5 @@ pub record TablesAgree (room : Room) (objects verdicts : List ℕ) (size : Size)
   pub width : (o : ℕ) → room .width o ≡ cellOf objects (size .count) o 3
   pub tall : (o : ℕ) → room .tall o ≡ cellOf objects (size .count) o 4
   pub drawable : (o s : ℕ) → names steps o s ≡ true → room .drawable o s ≡ not (eqb (verdictOf verdicts (size .count) o s) 11)
-  pub fault : (o s : ℕ) → names steps o s ≡ true → room .drawable o s ≡ true → sized room o ≡ true
+  pub fault : (o s : ℕ) → names steps o s ≡ true → room .drawable o s ≡ true → sizeAllowed room o ≡ true
       → room .fault o s ≡ verdictOf verdicts (size .count) o s

@@ -1,6 +1,6 @@
 -- Laws of verdicts: an image's own refusal is 8 or less, so it is never mistaken for 11 or for a cell that isn't judged; which verdicts are
 -- right; a table of verdicts after one more step; and what session's tables tell of the decoded room. Assumes nothing.
-use Prim.Native.Nat.{ℕ, zero, suc, _+_, _-_, _*_, _/_, _≤_, _<_, _%_}
+use Prim.Native.Nat.{ℕ, zero, suc, _+_, _-_, _*_, _/_, _≤_, _<_}
 use mathlib.Core.Bool.{Bool, true, false, cond, not, _&&_, _||_, and-false, false≢true}
 use mathlib.Core.List.{List, [], _∷_}
 use lib.Dec.{eqb, leb, ltb}
@@ -40,8 +40,9 @@ use Rattle.scene.specs.declared.Place.{Place}
 use Rattle.scene.specs.declared.Step.{Step}
 use Rattle.scene.specs.declared.Step.the-variants as step
 use Rattle.scene.specs.Steps.{mostSteps}
+use Rattle.scene.proofs.Allowed.{allowed-means}
 use Rattle.stored.specs.Bytes.{down, stepAt, readable}
-use Rattle.replay.specs.Tables.{cellOf, verdictOf, draws, names, sized, TablesAgree, verdictsLength}
+use Rattle.replay.specs.Tables.{cellOf, verdictOf, draws, names, atCorner, sizeAllowed, TablesAgree, verdictsLength}
 use Rattle.replay.proofs.TablesLaws.{cell-none, cell-row, cell-past, verdict-none, verdict-past, verdict-zero, verdict-over, verdict-cell}
 use Rattle.layers.specs.Decoded.{decoded}
 use Rattle.layers.specs.Ready.{Ready}
@@ -245,24 +246,20 @@ fault-passed planes s o st e =
 
 -- ---- a verdict is right
 
-last-two : (p d e : Bool) → (p && d && e) ≡ true → (d ≡ true) × (e ≡ true)
-last-two p d e h = (and-right p d (and-left (p && d) e h), and-right (p && d) e h)
-
 module _ (s : List ℕ) (r : Room) (o st : ℕ) where
   -- an image whose size is allowed is no larger than the room
-  pub sized-within : sized (decoded s r) o ≡ true → (imageWidth s o ≤ r .width) × (imageHeight s o ≤ r .height)
-  unfolding sized decoded
-  sized-within h =
-      let w = imageWidth s o in
-      let t = imageHeight s o in
-      let q = last-two (eqb (w % 8) 0 && ltb 0 w && ltb 0 t) (leb w (8 * (r .width / 8))) (leb t (r .height)) h in
-      let a : imageWidth s o ≤ 8 * (r .width / 8) = leb-true w (8 * (r .width / 8)) (q .0) in
-      (omega (arith, a), leb-true t (r .height) (q .1))
+  pub size-within : sizeAllowed (decoded s r) o ≡ true → (imageWidth s o ≤ r .width) × (imageHeight s o ≤ r .height)
+  unfolding sizeAllowed decoded
+  size-within h =
+      let edges = allowed-means (decoded s r) (atCorner o) .0 h .inside in
+      let a : 0 + imageWidth s o ≤ 8 * (r .width / 8) = edges .0 in
+      let b : 0 + imageHeight s o ≤ r .height = edges .1 in
+      (omega (arith, a), omega (arith, b))
 
   pub right-none : false ≡ drawable s o st → Right s r o st 11
   right-none d = record { low = omega arith; can-draw = sym d; own = λ q z. absurd (false≢true (d ∙ q)) }
 
-  pub right-large : true ≡ drawable s o st → (sized (decoded s r) o ≡ true → ⊥) → Right s r o st 0
+  pub right-large : true ≡ drawable s o st → (sizeAllowed (decoded s r) o ≡ true → ⊥) → Right s r o st 0
   right-large d k = record { low = omega arith; can-draw = sym d; own = λ q z. absurd (k z) }
 
   pub right-own : true ≡ drawable s o st → (n : ℕ) → number (imageFault (r .planes) s o st) ≡ n → Right s r o st n
@@ -284,10 +281,10 @@ module _ (s : List ℕ) (r : Room) (t : List ℕ) (o st : ℕ) (ready : Ready s 
   row-height = gathered-height s t (ready .gathered) o one (omega (arith, le, all))
 
   pub right-wide : (w : ℕ) → w ≡ getD t (8 * o + 3) 0 → r .width < w → Right s r o st 0
-  right-wide w e lt = right-large s r o st d (λ z. omega (arith, e, lt, row-width, sized-within s r o st z .0))
+  right-wide w e lt = right-large s r o st d (λ z. omega (arith, e, lt, row-width, size-within s r o st z .0))
 
   pub right-high : (h : ℕ) → h ≡ getD t (8 * o + 4) 0 → r .height < h → Right s r o st 0
-  right-high h e lt = right-large s r o st d (λ z. omega (arith, e, lt, row-height, sized-within s r o st z .1))
+  right-high h e lt = right-large s r o st d (λ z. omega (arith, e, lt, row-height, size-within s r o st z .1))
 
   pub right-tested : (w h b z : ℕ) → w ≡ getD t (8 * o + 3) 0 → h ≡ getD t (8 * o + 4) 0 → At b z ≡ stateBlock s o st
       → (a : Test) → a ≡ imageTest (r .planes) (w / 8) h s (b + 8) z → Right s r o st (number a)
@@ -476,7 +473,7 @@ module _ (s : List ℕ) (r : Room) (t : List ℕ) (all : r .objects ≡ objectCo
         j .right o st i (j .done o st i n) .can-draw ∙ ap (λ (x : ℕ). not (eqb x 11)) (inside-cell o st i)
     known-drawable o st n (outside e d) = sym d ∙ ap (λ (x : ℕ). not (eqb x 11)) e
 
-    known-fault : (o st : ℕ) → names h o st ≡ true → Cell v o st → drawable s o st ≡ true → sized (decoded s r) o ≡ true
+    known-fault : (o st : ℕ) → names h o st ≡ true → Cell v o st → drawable s o st ≡ true → sizeAllowed (decoded s r) o ≡ true
         → number (imageFault (r .planes) s o st) ≡ verdictOf v (r .objects) o st
     known-fault o st n (inside i) d z = j .right o st i (j .done o st i n) .own d z ∙ inside-cell o st i
     known-fault o st n (outside e d) d′ z = absurd (false≢true (d ∙ d′))

@@ -12,7 +12,7 @@ use Rattle.room.specs.declared.Room.{Room}
 use Rattle.image.specs.Image.{drawable}
 use Rattle.image.specs.Fault.{imageFault}
 use Rattle.scene.specs.declared.Step.{Step}
-use Rattle.replay.specs.Tables.{names, sized, verdictsLength}
+use Rattle.replay.specs.Tables.{names, sizeAllowed, verdictsLength}
 use Rattle.layers.specs.Decoded.{decoded}
 
 -- v is the verdict of object o in state st: 11 where it can't be drawn, else the number of its image's fault, which is asked only of an
@@ -20,7 +20,7 @@ use Rattle.layers.specs.Decoded.{decoded}
 pub record Right (s : List ℕ) (r : Room) (o st v : ℕ) : Type 0 where
   pub low : v ≤ 11
   pub can-draw : drawable s o st ≡ not (eqb v 11)
-  pub own : drawable s o st ≡ true → sized (decoded s r) o ≡ true → number (imageFault (r .planes) s o st) ≡ v
+  pub own : drawable s o st ≡ true → sizeAllowed (decoded s r) o ≡ true → number (imageFault (r .planes) s o st) ≡ v
 
 -- an object and a state that have a cell
 pub record Within (r : Room) (o st : ℕ) : Type 0 where
