@@ -1,4 +1,5 @@
 -- Document 01's table of refusals holds: each number is given exactly when.
+use mathlib.Core.Path.{refl}
 use lib.ListN.{length}
 use Rattle.room.specs.Test.{fixedOnly}
 use Rattle.demands.specs.Refusals.{Refusals}
@@ -81,6 +82,9 @@ refusals =
       place-wrong = costumes.place-wrong;
       limb-wrong = costumes.limb-wrong;
       record-wrong = costumes.record-wrong;
+      test-of-load = λ s b. refl;
+      test-of-record = λ s lent. refl;
+      test-of-call = λ s b. refl;
       room-of-call = session.room-first;
       room-of-draw = session.draw-room;
       room-of-hide = session.hide-room;

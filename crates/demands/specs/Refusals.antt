@@ -23,6 +23,7 @@ use Rattle.room.specs.declared.Parts.{Parts}
 use Rattle.room.specs.declared.Needed.the-variants.{All, Missing}
 use Rattle.room.specs.declared.Room.{Room}
 use Rattle.room.specs.declared.Tested.the-variants.{Right}
+use Rattle.objects.specs.Record.{recordTest}
 use Rattle.objects.specs.Object.{objectBlock, placeNumber, headerCall}
 use Rattle.objects.specs.Name.{nameNumber}
 use Rattle.image.specs.Image.{imageWidth, imageHeight, stateBlock, drawable}
@@ -164,7 +165,7 @@ pub record Refusals : Type 0 where
   pub sizes-allowed : (w h : ℕ) → (sizesAllowed w h ≡ false) ↔ OutOfRange w h
   -- 4: "a lent buffer is shorter than the call needs"
   pub four : (lent : Lent) (s : List ℕ) → (numberOf (roomTest lent s) ≡ 4) ↔ ((r : Room) × Sized s r × (short lent r ≡ true))
-  -- what a call needs: a record or header of 16 bytes; a session of 450 bytes, with pixels W × H and masks N × S × H, or with a flag byte per object
+  -- what a call needs: a record or header of 16 bytes; a session of its fixed size, with pixels W × H and masks N × S × H, or with a flag byte per object
   pub short-fixed : (size n : ℕ) (r : Room) → (short (fixedOnly size n) r ≡ true) ↔ (n < size)
   pub short-surfaces : (size n pixels masks : ℕ) (r : Room)
       → (short (withSurfaces size n pixels masks) r ≡ true)
@@ -253,6 +254,12 @@ pub record Refusals : Type 0 where
   pub place-wrong : (l : List ℕ) → (placesRight l ≡ false) ↔ SomePlaceWrong l
   pub limb-wrong : (n : ℕ) (l : List ℕ) → (limbsRight n l ≡ false) ↔ SomeLimbWrong n l
   pub record-wrong : (s : List ℕ) (o n : ℕ) → (offsetRight s o n ≡ false) ↔ RecordWrong s o n
+  -- "Every call that takes room bytes tests the whole room as the load does": the load's test and the record's, which give their numbers, and that of a
+  -- draw, a hide or a take-back
+  pub test-of-load : (s : List ℕ) (b : play.Lent)
+      → play.testOf s b ≡ roomTest (withSurfaces sessionSize (length (b .session)) (length (b .pixels)) (length (b .masks))) s
+  pub test-of-record : (s lent : List ℕ) → recordTest s lent ≡ roomTest (fixedOnly 16 (length lent)) s
+  pub test-of-call : (s : List ℕ) (b : play.Lent) → play.callTest s b ≡ play.testOf s b
   -- "Order: 1, 2, 3, 4 for the room", then the pictures, and only then 9 to 14 and an image: a call gives each of the room's numbers where its test does.
   -- A draw gives 2 and 5 to 8 for its image too, as above
   pub room-of-call : (s : List ℕ) (b : play.Lent) (c : Call) (n : ℕ) → 1 ≤ n → numberOf (play.callTest s b) ≡ n → play.numberOf s b c ≡ n
