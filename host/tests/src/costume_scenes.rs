@@ -81,84 +81,126 @@ pub fn questions(b: &mut Comparison, r: &mut Rng) {
     }
 }
 
-/// A costume: table, records and stream in one payload.
-pub fn playing(b: &mut Comparison, r: &mut Rng) {
-    let stream: Vec<u8> = (0..r.range(1, 300))
+/// Commands and pictures.
+fn stream(r: &mut Rng) -> Vec<u8> {
+    (0..r.range(1, 300))
         .map(|_| match r.below(4) {
             0 => r.range(0x70, 0x7D) as u8,
             1 => r.pick(&[0x79, 0x7A]),
             _ => r.byte(),
         })
-        .collect();
-    let full = r.once_in(6);
-    let count = if full { r.pick(&[976, 1024]) } else { 4 * r.range(1, 6) };
-    let table = r.below(5);
-    let mut payload = r.bytes(table + 2 * count);
-    for record in 0..count {
-        let at = table + 2 * record;
-        let mask = match r.below(6) {
-            0 => 0,
-            1 => 0xFFFF,
-            2 => 1 << r.below(16),
-            _ => r.next() as u16 & r.next() as u16,
-        };
-        let offset = match r.below(12) {
-            0 => 0,
-            1 => 0xFFFF,
-            2 if r.once_in(3) => r.range(1, 7),
-            _ => payload.len() + 6,
-        };
-        payload[at..at + 2].copy_from_slice(&(offset as u16).to_le_bytes());
-        if offset != payload.len() + 6 {
-            continue;
-        }
-        payload.extend(mask.to_le_bytes());
-        for _ in 0..mask.count_ones() {
-            if r.once_in(4) {
-                payload.extend([0xFF, 0xFF]);
-                continue;
-            }
-            let length = r.range(1, stream.len().min(128));
-            // Now and then a window that just passes the stream.
-            let start = r.below(stream.len() - length + 1) + if r.once_in(60) { stream.len() - length + 1 } else { 0 };
-            payload.extend((start as u16).to_le_bytes());
-            payload.push((length - 1) as u8 | if r.once_in(2) { 0x80 } else { 0 });
-        }
+        .collect()
+}
+
+/// A limb's entry in a record: idle, or a window of a stream of `stream` bytes.
+fn add_entry(r: &mut Rng, payload: &mut Vec<u8>, stream: usize) {
+    if r.once_in(4) {
+        payload.extend([0xFF, 0xFF]);
+        return;
     }
-    let last = r.once_in(4);
-    let command = if last { 6 } else { payload.len() as u32 + 6 };
-    if !last {
-        payload.extend(&stream);
+    let length = r.range(1, stream.min(128));
+    // Now and then a window that just passes the stream.
+    let start = r.below(stream - length + 1) + if r.once_in(60) { stream - length + 1 } else { 0 };
+    payload.extend((start as u16).to_le_bytes());
+    payload.push((length - 1) as u8 | if r.once_in(2) { 0x80 } else { 0 });
+}
+
+/// The table's offset at byte `at`, and the record that it names, if it names one, at the payload's end.
+fn add_record(r: &mut Rng, payload: &mut Vec<u8>, at: usize, stream: usize) {
+    let mask = match r.below(6) {
+        0 => 0,
+        1 => 0xFFFF,
+        2 => 1 << r.below(16),
+        _ => r.next() as u16 & r.next() as u16,
+    };
+    let offset = match r.below(12) {
+        0 => 0,
+        1 => 0xFFFF,
+        2 if r.once_in(3) => r.range(1, 7),
+        _ => payload.len() + 6,
+    };
+    payload[at..at + 2].copy_from_slice(&(offset as u16).to_le_bytes());
+    if offset != payload.len() + 6 {
+        return;
     }
-    let mut limbs = if r.once_in(2) { vec![0; 256] } else { (0..16).flat_map(|_| limb(r, stream.len())).collect() };
-    let tail = r.below(4);
-    limbs.extend(r.bytes(tail));
-    for _ in 0..30 {
-        let (chore, direction) = (r.below(count / 4) as u32, r.below(4) as u32);
+    payload.extend(mask.to_le_bytes());
+    for _ in 0..mask.count_ones() {
+        add_entry(r, payload, stream);
+    }
+}
+
+/// A costume: table, records and stream in one payload.
+struct Played {
+    payload: Vec<u8>,
+    table: usize,
+    count: usize,
+    command: u32,
+    /// The stream's length.
+    stream: usize,
+}
+
+impl Played {
+    fn new(r: &mut Rng) -> Played {
+        let stream = stream(r);
+        let full = r.once_in(6);
+        let count = if full { r.pick(&[976, 1024]) } else { 4 * r.range(1, 6) };
+        let table = r.below(5);
+        let mut payload = r.bytes(table + 2 * count);
+        for record in 0..count {
+            add_record(r, &mut payload, table + 2 * record, stream.len());
+        }
+        let last = r.once_in(4);
+        let command = if last { 6 } else { payload.len() as u32 + 6 };
+        if !last {
+            payload.extend(&stream);
+        }
+        Played { payload, table, count, command, stream: stream.len() }
+    }
+
+    fn costume(&self, count: u32, command: u32) -> Costume {
+        Costume { table: self.table as u32, count, command }
+    }
+
+    /// A start and some ticks, now and then with wrong limbs beside them: the limbs afterwards.
+    fn turn(&self, b: &mut Comparison, r: &mut Rng, limbs: Vec<u8>) -> Vec<u8> {
+        let (payload, command) = (&self.payload, self.command);
+        let (chore, direction) = (r.below(self.count / 4) as u32, r.below(4) as u32);
         let (chore, direction) = if r.once_in(10) { (r.pick(&[243, 244, 255, chore]), r.below(5) as u32) } else { (chore, direction) };
-        let (mut counted, mut lent) = (count as u32, limbs.clone());
+        let (mut counted, mut lent) = (self.count as u32, limbs.clone());
         if r.once_in(12) {
             counted = r.pick(&[4 * chore + direction, 4 * chore + direction + 1, payload.len() as u32, 0xFFFF_FFFF]);
         }
-        let costume = Costume { table: table as u32, count: counted, command };
+        let costume = self.costume(counted, command);
         if r.once_in(12) {
-            spoil(r, &mut lent, stream.len());
-            calls::start(b, &payload, &lent, costume, chore, direction);
-            calls::tick(b, &payload, &lent, command);
+            spoil(r, &mut lent, self.stream);
+            calls::start(b, payload, &lent, costume, chore, direction);
+            calls::tick(b, payload, &lent, command);
             calls::limb_draws(b, &lent, r.below(16) as u32);
         }
         let shown = if r.once_in(12) { &payload[..r.below(payload.len() + 1)] } else { &payload[..] };
-        limbs = calls::start(b, shown, &limbs, costume, chore, direction);
+        let mut limbs = calls::start(b, shown, &limbs, costume, chore, direction);
         for _ in 0..r.below(6) {
-            limbs = calls::tick(b, &payload, &limbs, command);
+            limbs = calls::tick(b, payload, &limbs, command);
             for i in 0..4 {
                 calls::limb_draws(b, &limbs, i * 5);
             }
         }
+        limbs
+    }
+}
+
+/// Costumes that play.
+pub fn playing(b: &mut Comparison, r: &mut Rng) {
+    let played = Played::new(r);
+    let mut limbs = if r.once_in(2) { vec![0; 256] } else { (0..16).flat_map(|_| limb(r, played.stream)).collect() };
+    let tail = r.below(4);
+    limbs.extend(r.bytes(tail));
+    for _ in 0..30 {
+        limbs = played.turn(b, r, limbs);
     }
     // The record and the table end where the payload does.
-    let costume = Costume { table: table as u32, count: count as u32, command: 6 };
-    for length in payload.len().saturating_sub(12)..payload.len() {
-        calls::start(b, &payload[..length], &vec![0; 256], costume, 0, r.below(4) as u32);
+    let costume = played.costume(played.count as u32, 6);
+    for length in played.payload.len().saturating_sub(12)..played.payload.len() {
+        calls::start(b, &played.payload[..length], &vec![0; 256], costume, 0, r.below(4) as u32);
     }
 }

@@ -11,44 +11,51 @@ fn any_node<'a>(r: &mut Rng, plan: &'a mut Plan) -> &'a mut Node {
     plan.root.nth(n)
 }
 
+/// A size that is not the block's own.
+fn wrong_size(r: &mut Rng, plan: &mut Plan) {
+    let node = any_node(r, plan);
+    let size = node.write().len() as u32;
+    let near = size.wrapping_add(r.pick(&[1, 2, 8, 0xFFFF_FFFF, 0xFFFF_FFF8]));
+    let sizes = [0, 1, 7, 8, 9, near, near, near, size.swap_bytes(), 0x7FFF_FFFF, 0x8000_0000, 0xFFFF_FFFF, 1_048_577];
+    node.size = Some(r.pick(&sizes));
+}
+
+/// Down to depth 6 or 7, at any container.
+fn deep(r: &mut Rng, plan: &mut Plan) {
+    let depth = r.range(6, 7);
+    let levels = depth - 1;
+    let mut deep = rooms::nest(r, levels);
+    if matches!(&deep.body, Body::Kids(_)) {
+        deep.tag = *b"IM77";
+    }
+    let kids = plan.root.kids();
+    let at = r.below(kids.len() + 1);
+    kids.insert(at, deep);
+}
+
+/// A block of 4 to 7 bytes, with another that starts inside its header: only the size is wrong.
+fn overlapped(r: &mut Rng, plan: &mut Plan) {
+    let (size, inside) = (r.range(4, 7), r.below(5));
+    let body = [r.bytes(size - 4), (8 + inside as u32).to_be_bytes().to_vec(), r.bytes(inside)].concat();
+    let node = any_node(r, plan);
+    if let Body::Kids(kids) = &mut node.body {
+        let at = r.below(kids.len() + 1);
+        kids.insert(at, Node { size: Some(size as u32), ..leaf(b"FILL", body) });
+    }
+}
+
 /// 1: sizes, tags, depth, filling.
 pub fn tree(r: &mut Rng, plan: &mut Plan) {
     match r.below(7) {
-        0 | 1 => {
-            let node = any_node(r, plan);
-            let size = node.write().len() as u32;
-            let near = size.wrapping_add(r.pick(&[1, 2, 8, 0xFFFF_FFFF, 0xFFFF_FFF8]));
-            let sizes = [0, 1, 7, 8, 9, near, near, near, size.swap_bytes(), 0x7FFF_FFFF, 0x8000_0000, 0xFFFF_FFFF, 1_048_577];
-            node.size = Some(r.pick(&sizes));
-        }
+        0 | 1 => wrong_size(r, plan),
         2 => {
             // Bytes after the children, or after a leaf's body (harmless there).
             let stray = if r.once_in(3) { r.range(8, 20) } else { r.range(1, 7) };
             let stray = if r.once_in(2) { vec![0; stray] } else { r.bytes(stray) };
             any_node(r, plan).stray = stray;
         }
-        3 => {
-            // Down to depth 6 or 7, at any container.
-            let depth = r.range(6, 7);
-            let levels = depth - 1;
-            let mut deep = rooms::nest(r, levels);
-            if matches!(&deep.body, Body::Kids(_)) {
-                deep.tag = *b"IM77";
-            }
-            let kids = plan.root.kids();
-            let at = r.below(kids.len() + 1);
-            kids.insert(at, deep);
-        }
-        4 => {
-            // A block of 4 to 7 bytes, with another that starts inside its header: only the size is wrong.
-            let (size, inside) = (r.range(4, 7), r.below(5));
-            let body = [r.bytes(size - 4), (8 + inside as u32).to_be_bytes().to_vec(), r.bytes(inside)].concat();
-            let node = any_node(r, plan);
-            if let Body::Kids(kids) = &mut node.body {
-                let at = r.below(kids.len() + 1);
-                kids.insert(at, Node { size: Some(size as u32), ..leaf(b"FILL", body) });
-            }
-        }
+        3 => deep(r, plan),
+        4 => overlapped(r, plan),
         5 => {
             let tag = if r.once_in(2) { *r.pick(&OTHER) } else { *r.pick(&CONTAINERS) };
             any_node(r, plan).tag = tag;
@@ -62,32 +69,36 @@ pub fn tree(r: &mut Rng, plan: &mut Plan) {
 }
 
 /// A needed block: the tags from the room to its parent, its own, the bytes of its fixed fields.
-type Needed<'a> = (&'a [&'a [u8; 4]], &'a [u8; 4], usize);
+type Needed = (&'static [&'static [u8; 4]], &'static [u8; 4], usize);
 
-/// 2: a needed block missing, too short, or behind a bad one of its tag.
-pub fn needed(r: &mut Rng, plan: &mut Plan) {
-    let needed: [Needed; 7] = [
-        (&[], b"RMHD", 6),
-        (&[], b"RMIM", 0),
-        (&[b"RMIM"], b"RMIH", 2),
-        (&[b"RMIM"], b"IM00", 0),
-        (&[b"RMIM", b"IM00"], b"SMAP", 0),
-        (&[b"OBCD"], b"CDHD", 13),
-        (&[b"OBIM"], b"IMHD", 16),
-    ];
-    let (path, tag, fields) = r.pick(&needed);
-    // Which OBCD or OBIM: any.
+const NEEDED: [Needed; 7] = [
+    (&[], b"RMHD", 6),
+    (&[], b"RMIM", 0),
+    (&[b"RMIM"], b"RMIH", 2),
+    (&[b"RMIM"], b"IM00", 0),
+    (&[b"RMIM", b"IM00"], b"SMAP", 0),
+    (&[b"OBCD"], b"CDHD", 13),
+    (&[b"OBIM"], b"IMHD", 16),
+];
+
+/// The block at the path's end: of several OBCDs or OBIMs, any.
+fn parent<'a>(r: &mut Rng, plan: &'a mut Plan, path: &[&[u8; 4]]) -> Option<&'a mut Node> {
     let parents: Vec<usize> = match path.first() {
         Some(first) if path.len() == 1 => {
             plan.root.kids().iter().enumerate().filter(|(_, kid)| &kid.tag == *first).map(|(i, _)| i).collect()
         }
         _ => vec![],
     };
-    let parent = match parents.len() {
+    match parents.len() {
         0 => plan.root.find(path),
         n => plan.root.kids().get_mut(parents[r.below(n)]),
-    };
-    let Some(Node { body: Body::Kids(kids), .. }) = parent else { return };
+    }
+}
+
+/// 2: a needed block missing, too short, or behind a bad one of its tag.
+pub fn needed(r: &mut Rng, plan: &mut Plan) {
+    let (path, tag, fields) = r.pick(&NEEDED);
+    let Some(Node { body: Body::Kids(kids), .. }) = parent(r, plan, path) else { return };
     let Some(at) = kids.iter().position(|kid| &kid.tag == tag) else { return };
     match r.below(4) {
         0 => drop(kids.remove(at)),

@@ -8,45 +8,54 @@ use crate::rooms::sizes;
 use crate::tree::{container, leaf, Node};
 use reference::write;
 
+/// The next byte of a picture of some kind.
+struct Walk {
+    kind: usize,
+    value: u8,
+    left: usize,
+}
+
+impl Walk {
+    fn next(&mut self, r: &mut Rng) -> u8 {
+        match self.kind {
+            0 => return r.byte(),
+            1 => (),
+            2 => self.value = self.value.wrapping_add(r.pick(&[0, 1, 255])),
+            3 => self.value = self.value.wrapping_add(r.pick(&[0, 0, 1, 255, 2, 254, 128])),
+            4 => return r.pick(&[0, 0, 1, 255]),
+            _ => self.run(r),
+        }
+        self.value
+    }
+
+    /// Runs and stretches without runs, around the caps.
+    fn run(&mut self, r: &mut Rng) {
+        if self.left == 0 {
+            self.left = r.pick(&[1, 2, 3, 5, 126, 127, 128, 129, 130]) * 2 + r.below(2);
+            self.value = r.byte();
+        }
+        let step = if self.left % 2 == 1 { 1 } else { 2 };
+        self.left = self.left.saturating_sub(step);
+        if self.left % 2 == 1 {
+            self.value = self.value.wrapping_add(1);
+        }
+    }
+}
+
 /// Bytes with something of a picture in them.
 fn structured(r: &mut Rng, size: usize, stride: usize) -> Vec<u8> {
     let kind = r.below(6);
-    let (mut value, mut left) = (r.byte(), 0);
-    let mut walk = |r: &mut Rng| match kind {
-        0 => r.byte(),
-        1 => value,
-        2 => {
-            value = value.wrapping_add(r.pick(&[0, 1, 255]));
-            value
-        }
-        3 => {
-            value = value.wrapping_add(r.pick(&[0, 0, 1, 255, 2, 254, 128]));
-            value
-        }
-        4 => r.pick(&[0, 0, 1, 255]),
-        _ => {
-            // Runs and stretches without runs, around the caps.
-            if left == 0 {
-                left = r.pick(&[1, 2, 3, 5, 126, 127, 128, 129, 130]) * 2 + r.below(2);
-                value = r.byte();
-            }
-            left = left.saturating_sub(if left % 2 == 0 { 2 } else { 1 });
-            if left % 2 == 1 {
-                value = value.wrapping_add(1);
-            }
-            value
-        }
-    };
+    let mut walk = Walk { kind, value: r.byte(), left: 0 };
     // Along the strips as the writers read them: `stride` bytes in a row.
     let columns = size / stride.max(1);
     let mut bytes = vec![0; size];
     for start in 0..stride {
         for row in 0..columns {
-            bytes[row * stride + start] = walk(r);
+            bytes[row * stride + start] = walk.next(r);
         }
     }
     if r.once_in(2) {
-        bytes = (0..size).map(|_| walk(r)).collect();
+        bytes = (0..size).map(|_| walk.next(r)).collect();
     }
     bytes
 }
