@@ -1,16 +1,14 @@
 -- Laws of the climb's definitions: a state looked up in a shown list, what a parent's state lets, and one link of the climb.
 use Prim.Native.Nat.{ℕ, zero, suc, _+_, _-_, _/_, _%_, _≤_, _<_}
-use mathlib.Core.Path.{_≡_, refl, sym, ap, _∙_}
+use mathlib.Core.Path.{_≡_, refl, sym, _∙_}
 use mathlib.Core.Bool.{Bool, true, false, cond, not, _&&_}
 use mathlib.Core.List.{List}
-use mathlib.Core.Logic.{by-cases}
-use native.Mathlib.Decide.{ℕ-discrete}
 use native.Mathlib.Numerals.{add-one}
 use native.Mathlib.Omega.{arith}
 use borrow.Author.Tests.{eq-eqb, ne-eqb, le-leb, lt-leb}
 use lib.Dec.{eqb, leb}
-use lib.ListN.{getD, set, take, drop, length}
-use lib.Seq.{drop-cons, drop-length, length-take-le, getD-take, getD-set-same, getD-set-other}
+use lib.ListN.{getD, take, drop, length}
+use lib.Seq.{drop-cons, drop-length, length-take-le, getD-take}
 use Rattle.scene.specs.declared.Entry.{Entry}
 use Rattle.climb.specs.Objects.{Objects}
 use Rattle.climb.specs.Climb.{stateOf, lets, isOpen}
@@ -35,14 +33,6 @@ module _ (l : List Entry) (n o : ℕ) (long : n ≤ length l) where
   state-none i e inv =
       let k : i ≡ length (take n l) = rw (length-take-le n l long) e in
       sym (inv ∙ rw (k, drop-length (take n l)))
-
--- the states of one more object
-pub states-more : (es : List Entry) (l : List ℕ) (o v : ℕ) → o < length l → ((q : ℕ) → q < o → getD l q 0 ≡ stateOf es q) → v ≡ stateOf es o
-    → (q : ℕ) → q < o + 1 → getD (set l o v) q 0 ≡ stateOf es q
-states-more es l o v h told e q k =
-    by-cases (ℕ-discrete q o)
-    (λ z. ap (λ (n : ℕ). getD (set l o v) n 0) z ∙ getD-set-same l o v 0 h ∙ e ∙ ap (stateOf es) (sym z))
-    (λ z. getD-set-other l o q v 0 z ∙ told q (omega arith))
 
 -- ---- what a parent's state lets
 

@@ -1,12 +1,11 @@
 -- Laws of a picture's source: what reading a strip of a tested picture leaves, and where an object's image stands. Assumes nothing.
-use mathlib.Core.Path.{_≡_, sym, ap, ap₂, _∙_}
+use mathlib.Core.Path.{_≡_, sym, ap₂, _∙_}
 use mathlib.Core.Bool.{Bool, true, false, not, _&&_, false≢true}
 use mathlib.Core.List.{List}
 use Prim.Native.Nat.{ℕ, _+_, _*_, _/_, _≤_, _<_}
 use native.Mathlib.Omega.{arith}
 use lib.Dec.{eqb, leb, ltb}
-use lib.ListN.{getD, take, replicate, getD-replicate}
-use lib.Seq.{getD-take}
+use lib.ListN.{getD, take, replicate}
 use Rattle.block.specs.Tag.{tag-SMAP}
 use Rattle.block.specs.Tree.{findTag, isAt}
 use Rattle.block.specs.declared.Found.the-variants.{At, Missing}
@@ -22,7 +21,7 @@ use Rattle.table.specs.Test.{pictureTest, stripTest, blockTest}
 use Rattle.table.specs.declared.Test.the-variants.{Passed}
 use Rattle.table.proofs.TestLaws.{refused-stops}
 use Rattle.table.proofs.BlockLaws.{not-passed, block-table, block-strip}
-use Rattle.load.proofs.CellLaws.{at-size, drawn-pixels, read-row}
+use Rattle.load.proofs.CellLaws.{at-size, drawn-pixels, zero-rows, read-row}
 use Rattle.room.specs.declared.Room.{Room}
 use Rattle.image.specs.Image.{objectCount, stateBlock}
 use Rattle.room.specs.Picture.{planeIn}
@@ -85,10 +84,7 @@ module _ (s : List ℕ) (m : Source) (p j : ℕ) (fits : j < m .strips) (passes 
 
   pub rows-zero : Missing ≡ planeIn s (m .payload) (m .«payload_end») p → (e : List ℕ) → take (0 + m .height) e ≡ replicate (m .height) 0
       → (y : ℕ) → y < m .height → getD e y 0 ≡ maskIn s m p j y
-  rows-zero none e filled y lt =
-      let all : 0 + m .height ≡ m .height = omega arith in
-      rw (← none)
-      (sym (getD-take (m .height) e y 0 lt) ∙ ap (λ (l : List ℕ). getD l y 0) (rw all at filled) ∙ getD-replicate (m .height) y 0 0 lt)
+  rows-zero none e filled y lt = rw (← none) (zero-rows (m .height) e filled y lt)
 
 -- ---- an object's image
 module _ (s : List ℕ) (o st : ℕ) (there : isAt (smapOf s (stateBlock s o st)) ≡ true) where

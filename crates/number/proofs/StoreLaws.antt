@@ -1,8 +1,10 @@
 -- Laws of `sets l i vs`, the list l with vs stored from i on: runs of stores, and each byte afterwards.
-use mathlib.Core.Path.{_≡_, refl, ap, _∙_}
+use mathlib.Core.Path.{_≡_, refl, sym, ap, _∙_}
 use mathlib.Core.List.{List, [], _∷_, _++_, append-assoc}
+use mathlib.Core.Logic.{by-cases}
 use Prim.Native.Nat.{ℕ, zero, suc, _+_, _≤_, _<_}
 use native.Mathlib.Nat.{le-of-suc-le-suc, not-suc-le-zero}
+use native.Mathlib.Decide.{ℕ-discrete}
 use native.Mathlib.Omega.{arith}
 use lib.ListN.{length, getD, take, drop, set, length-set}
 use lib.Seq.{sets, sets-eq, getD-set-same, getD-set-other}
@@ -37,3 +39,15 @@ sets-in (v ∷ vs) l i j zero e h f =
     ∙ ap (λ (q : ℕ). getD (set l i v) q 0) (omega arith)
     ∙ getD-set-same l i v 0 (omega arith)
 sets-in (v ∷ vs) l i j (suc k) e h f = sets-in vs (set l i v) (suc i) j k (omega arith) (le-of-suc-le-suc h) (rw length-set (omega arith))
+
+-- ---- a table of f's values that is filled from its front: one more, and the places behind it
+
+pub table-more : (f : ℕ → ℕ) (l : List ℕ) (k v : ℕ) → k < length l → ((i : ℕ) → i < k → getD l i 0 ≡ f i) → v ≡ f k
+    → (i : ℕ) → i < k + 1 → getD (set l k v) i 0 ≡ f i
+table-more f l k v h so-far e i lt =
+    by-cases (ℕ-discrete i k)
+    (λ z. ap (λ (n : ℕ). getD (set l k v) n 0) z ∙ getD-set-same l k v 0 h ∙ e ∙ ap f (sym z))
+    (λ z. getD-set-other l k i v 0 z ∙ so-far i (omega arith))
+
+pub table-behind : (f : ℕ → ℕ) (l : List ℕ) (k v : ℕ) → ((i : ℕ) → k ≤ i → getD l i 0 ≡ f i) → (i : ℕ) → k + 1 ≤ i → getD (set l k v) i 0 ≡ f i
+table-behind f l k v rest i le = getD-set-other l k i v 0 (λ z. omega arith) ∙ rest i (omega arith)

@@ -2,9 +2,9 @@ use Prim.Native.Nat.{ℕ, _≤_, _<_, _-_}
 use mathlib.Core.Path.{_≡_, refl, _∙_}
 use lib.ListN.{length, getD, length-set}
 use native.Mathlib.Omega.{arith}
+use Rattle.number.proofs.StoreLaws.{table-more}
 use Rattle.stored.specs.Bytes.{entries}
 use Rattle.climb.specs.Climb.{stateOf}
-use Rattle.climb.proofs.ClimbLaws.{states-more}
 use Rattle.climb.proofs.states.fill_states.Statement.{statement}
 use Rattle.climb.proofs.states.fill_states.Tie as tie
 
@@ -32,7 +32,7 @@ loop-again c =
     let v = loop .inv in (
       omega arith,
       (simp length-set) ∙ v .1,
-      states-more (entries (args .s)) (loop .states) (loop .o) _ (omega (arith, v .1, pre .1)) (v .2)
+      table-more (stateOf (entries (args .s))) (loop .states) (loop .o) _ (omega (arith, v .1, pre .1)) (v .2)
           (c .state-of .ensures),
     )
 
