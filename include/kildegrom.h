@@ -45,7 +45,8 @@ extern "C" {
     X(KG_PLACE_NOT_ALLOWED, 12, "the place isn't allowed") \
     X(KG_NOTHING_TO_TAKE_BACK, 13, "nothing to take back") \
     X(KG_POINT_OUTSIDE, 14, "the point is outside the room") \
-    X(KG_ANIMATION_WRONG, 15, "an animation number, record, window or limb state is wrong")
+    X(KG_ANIMATION_WRONG, 15, "an animation number, record, window or limb state is wrong") \
+    X(KG_SIZES_DIFFER, 16, "the two rooms differ in width or height")
 
 /** @cond */
 #define KG_NUMBER_NAME(name, number, text) name = (number),
@@ -76,7 +77,15 @@ static inline uint32_t kg_name_length(uint64_t answer) { return (uint32_t)(answe
 /* ---- Sizes ---- */
 
 /** The sizes in bytes of what is lent (docs/LAYOUTS.md), and how many limbs there are. */
-enum { KG_RECORD_SIZE = 16, KG_HEADER_SIZE = 16, KG_SESSION_SIZE = 450, KG_LIMBS = 16, KG_LIMB_SIZE = 16, KG_LIMBS_SIZE = 256 };
+enum {
+    KG_RECORD_SIZE = 16,
+    KG_HEADER_SIZE = 16,
+    KG_SESSION_SIZE = 450,
+    KG_LIMBS = 16,
+    KG_LIMB_SIZE = 16,
+    KG_LIMBS_SIZE = 256,
+    KG_DIFFERENCE_SIZE = 8 /**< one place of kg_compare's list */
+};
 
 /** The largest sizes that a call takes; what is larger is refused with 1 (a room), 3, or 10 (the history). */
 enum {
@@ -88,8 +97,9 @@ enum {
     KG_MAX_HISTORY = 64,         /**< steps of a session; so its shown list has at most 64 entries too */
     KG_MAX_PICTURE_WIDTH = 128,  /**< pixels across an actor's picture, from 1 on */
     KG_MAX_PICTURE_HEIGHT = 200, /**< rows of an actor's picture, from 1 on */
-    KG_MAX_PIXELS = KG_MAX_WIDTH * KG_MAX_HEIGHT,                    /**< bytes of pixels that are enough for every room */
-    KG_MAX_MASKS = KG_MAX_PLANES * (KG_MAX_WIDTH / 8) * KG_MAX_HEIGHT /**< bytes of masks that are enough for every room */
+    KG_MAX_PIXELS = KG_MAX_WIDTH * KG_MAX_HEIGHT,                      /**< bytes of pixels that are enough for every room */
+    KG_MAX_MASKS = KG_MAX_PLANES * (KG_MAX_WIDTH / 8) * KG_MAX_HEIGHT, /**< bytes of masks that are enough for every room */
+    KG_MAX_DIFFERENCES = (KG_MAX_WIDTH / 8) * KG_DIFFERENCE_SIZE       /**< bytes of a list that is enough for every comparison */
 };
 
 /** The bytes of pixels, or of a frame, of a room of w by h; pixel (x, y) is byte y * w + x. For sizes that a record gives, as below. */
@@ -119,7 +129,8 @@ enum {
     KG_STACK_HEADER = 2048,     /**< kg_header, kg_name, kg_name_number */
     KG_STACK_ACTOR = 1024,      /**< kg_hidden, kg_stamp */
     KG_STACK_COSTUME = 1024,    /**< kg_start, kg_tick, kg_limb_draws */
-    KG_STACK_WRITE = 6144       /**< kg_write_smap, kg_write_plane */
+    KG_STACK_WRITE = 6144,      /**< kg_write_smap, kg_write_plane */
+    KG_STACK_COMPARE = 8192     /**< kg_compare */
 };
 
 /* ---- Records ---- */
@@ -334,6 +345,34 @@ uint32_t kg_tick(const uint8_t *payload, size_t payload_size, uint8_t *limbs, si
 /** Whether limb 0 to 15 draws: value 0, or 256 and the picture. Refusals 4, 15: there is no such limb, or any of the 16 is active with a length
  * that isn't 1 to 128 or a place outside its window. No stream is lent here, so a window's end isn't tested. */
 uint64_t kg_limb_draws(const uint8_t *limbs, size_t limbs_size, uint32_t limb);
+
+/* ---- Comparing ---- */
+
+/** Compares two rooms by what they decode to, strip by strip, left to right. For each strip whose pixels or whose rows in any plane differ a
+ * place of `list` is filled (KG_DIFFERENCE_SIZE bytes; kg_difference_at reads them): the strip, how many of its pixels differ and which
+ * planes. The value is how many places were filled: 0 where nothing differs. The same picture under another code is no difference; planes
+ * are compared up to the larger number of planes, one that a room doesn't declare reading as zero. Objects are not compared. a and b may be
+ * the same bytes. Refusals: 1 to 8 without 4 for a, then for b, then 16 where width or height differs, then 4 where the list has fewer places
+ * than strips differ; KG_MAX_DIFFERENCES bytes are always enough. kg_record tells which of the two rooms is refused. */
+uint64_t kg_compare(const uint8_t *a, size_t a_size, const uint8_t *b, size_t b_size, uint8_t *list, size_t list_size);
+
+/** A place of kg_compare's list. */
+struct kg_difference {
+    uint32_t strip;  /**< the strip's number, from 0: pixel columns 8 * strip to 8 * strip + 7 */
+    uint32_t pixels; /**< how many of its pixels differ, 0 to 1,600 */
+    uint32_t planes; /**< the planes that differ: bit k - 1 for plane k */
+};
+
+/** Place i of the list, i from 0 and below the value of kg_compare's answer. */
+static inline struct kg_difference kg_difference_at(const uint8_t *list, uint32_t i)
+{
+    struct kg_difference difference;
+    const uint8_t *at = list + (size_t)KG_DIFFERENCE_SIZE * i;
+    difference.strip = kg_u16(at);
+    difference.pixels = kg_u16(at + 2);
+    difference.planes = at[4];
+    return difference;
+}
 
 /* ---- Writing ---- */
 

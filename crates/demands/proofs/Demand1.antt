@@ -31,7 +31,10 @@ use Rattle.limbs.specs.declared.Drawn.the-variants as drawn
 use Rattle.point.specs.Call as point
 use Rattle.point.specs.declared.Pointed.{Pointed}
 use Rattle.point.specs.declared.Pointed.the-variants as pointed
-use Rattle.kildegrom.specs.Word.{hiddenWord, startedWord, drawnWord, wroteWord, pointedWord}
+use Rattle.compare.specs.Compare as compare
+use Rattle.compare.specs.declared.Compared.{Compared}
+use Rattle.compare.specs.declared.Compared.the-variants as compared
+use Rattle.kildegrom.specs.Word.{hiddenWord, startedWord, drawnWord, wroteWord, pointedWord, comparedWord}
 use Rattle.kildegrom.proofs.WordLaws.{number-back, value-back}
 use Rattle.limbs.proofs.Theorems.{tick-unchanged}
 use Rattle.load.specs.Load.{sessionAfter, pixelsAfter, masksAfter}
@@ -68,6 +71,10 @@ block-stays : (o : write.Outcome) (d : List ℕ) → Refusing (write.number (wri
 block-stays (write.refused k) d f = refl
 block-stays (write.written b) d f = absurd (f refl)
 
+list-stays : (o : compare.Outcome) (l : List ℕ) → Refusing (compare.number (compare.answerOf o)) → compare.listAfter o l ≡ l
+list-stays (compare.no n) l f = refl
+list-stays (compare.ok ds) l f = absurd (f refl)
+
 -- ---- answers of two parts
 
 object-parts : (a : Pointed) → Parts (point.number a) (point.value a) (pointedWord a)
@@ -92,6 +99,10 @@ draws-parts (drawn.Refused n) = record { whole = refl; alone = λ f. refl }
 write-parts : (a : Wrote) → Parts (write.number a) (write.value a) (wroteWord a)
 write-parts (wrote.Block size) = record { whole = refl; alone = λ f. absurd (f refl) }
 write-parts (wrote.Refused n) = record { whole = refl; alone = λ f. refl }
+
+compare-parts : (a : Compared) → Parts (compare.number a) (compare.value a) (comparedWord a)
+compare-parts (compared.Listed count) = record { whole = refl; alone = λ f. absurd (f refl) }
+compare-parts (compared.Refused n) = record { whole = refl; alone = λ f. refl }
 
 -- ---- draws, hides and take-backs
 
@@ -131,4 +142,6 @@ demand1 =
       smap-stays = λ w h rows d f. block-stays (write.smapOutcome w h rows (length d)) d f;
       plane-parts = λ k w h rows d. write-parts (write.answerOf (write.planeOutcome k w h rows (length d)));
       plane-stays = λ k w h rows d f. block-stays (write.planeOutcome k w h rows (length d)) d f;
+      compare-parts = λ a b list. compare-parts (compare.answerOf (compare.comparedOf a b (length list)));
+      compare-stays = λ a b list f. list-stays (compare.comparedOf a b (length list)) list f;
     }

@@ -28,8 +28,10 @@ pub mod RefusalSizes
 pub mod RefusalTables
 pub mod RefusalHistory
 pub mod RefusalCostumes
+pub mod RefusalCompared
 pub mod Refusals
 pub mod Demand1
 pub mod HeaderReads
 pub mod Demand2
 pub mod Demand3
+pub mod Request1

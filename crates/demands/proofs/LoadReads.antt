@@ -100,7 +100,7 @@ module _ (s : List ℕ) (b : Lent) (r : Room) (accepted : Right r ≡ testOf s b
     unfolding loadedPixels
     loaded-pixel = cell-is (r .width) (r .height) (λ u v o. background s r u v) (b .pixels) x y in-x in-y (long .1)
 
-    left-pixel : getD (afterLoad s b .pixels) (y * r .width + x) 0 ≡ background s r x y
+    pub left-pixel : getD (afterLoad s b .pixels) (y * r .width + x) 0 ≡ background s r x y
     left-pixel = ap (λ (l : List ℕ). getD l (y * r .width + x) 0) pixels-are ∙ loaded-pixel
 
     strip-right : stripTest false (strips r) (r .height) s (r .smap) (r .«smap_end») (x / 8) ≡ Passed
@@ -151,7 +151,7 @@ module _ (s : List ℕ) (b : Lent) (r : Room) (accepted : Right r ≡ testOf s b
         cell-is (strips r) (r .planes * h) (λ c p o. mask s r (p / h + 1) c (p % h)) (b .masks) t q in-t inside (long .2)
         ∙ (λ i. mask s r (number i) t (row i))
 
-    left-mask : getD (afterLoad s b .masks) (((k - 1) * r .height + y) * strips r + t) 0 ≡ mask s r k t y
+    pub left-mask : getD (afterLoad s b .masks) (((k - 1) * r .height + y) * strips r + t) 0 ≡ mask s r k t y
     left-mask = ap (λ (l : List ℕ). getD l (((k - 1) * r .height + y) * strips r + t) 0) masks-are ∙ loaded-mask
 
     mask-missing : planeIn s (r .image) (r .«image_end») k ≡ Missing → mask s r k t y ≡ 0

@@ -15,6 +15,7 @@ use Rattle.demands.proofs.RefusalRooms as room
 use Rattle.demands.proofs.RefusalSessions as session
 use Rattle.demands.proofs.RefusalObjects as object
 use Rattle.demands.proofs.RefusalOthers as other
+use Rattle.demands.proofs.RefusalCompared as compared
 
 pub refusals : Refusals
 refusals =
@@ -23,6 +24,7 @@ refusals =
       accepted-draw = session.draw-zero;
       accepted-hide = session.hide-zero;
       accepted-take-back = session.take-back-zero;
+      accepted-compare = compared.compare-zero;
       one = room.one;
       not-one-room = tree.not-one-room;
       two = room.two;
@@ -49,6 +51,7 @@ refusals =
       four-draws = other.draws-four;
       four-smap = other.smap-four;
       four-plane = other.plane-four;
+      four-compare = compared.compare-four;
       five = room.five;
       table-bad = tables.table-bad;
       five-draw = session.draw-five;
@@ -82,6 +85,7 @@ refusals =
       place-wrong = costumes.place-wrong;
       limb-wrong = costumes.limb-wrong;
       record-wrong = costumes.record-wrong;
+      sixteen = compared.compare-sixteen;
       test-of-load = λ s b. refl;
       test-of-record = λ s lent. refl;
       test-of-call = λ s b. refl;
@@ -92,6 +96,8 @@ refusals =
       room-of-point = object.point-room;
       room-of-header = λ s lent k n. object.header-room (fixedOnly 16 (length lent)) s k n;
       room-of-name = object.name-room;
+      rooms-of-compare = compared.compare-rooms;
+      no-four = compared.no-four;
     }
 
 pub numbers : Numbers
@@ -112,4 +118,5 @@ numbers =
       of-limb-draws = other.draws-numbers;
       of-smap = other.smap-numbers;
       of-plane = other.plane-numbers;
+      of-compare = compared.compare-numbers;
     }

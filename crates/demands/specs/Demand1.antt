@@ -23,7 +23,8 @@ use Rattle.costume.specs.Start as start
 use Rattle.limbs.specs.Tick.{tickNumber, tickBytes}
 use Rattle.limbs.specs.Limb as limb
 use Rattle.block_writer.specs.Call as write
-use Rattle.kildegrom.specs.Word.{word, hiddenWord, startedWord, drawnWord, wroteWord, pointedWord}
+use Rattle.compare.specs.Compare as compare
+use Rattle.kildegrom.specs.Word.{word, hiddenWord, startedWord, drawnWord, wroteWord, pointedWord, comparedWord}
 
 -- a call that isn't accepted
 abbrev pub Refusing : ℕ → Type 0
@@ -72,3 +73,8 @@ pub record Demand1 : Type 0 where
       → let a = write.answerOf (write.planeOutcome k w h rows (length d)) in Parts (write.number a) (write.value a) (wroteWord a)
   pub plane-stays : (k w h : ℕ) (rows d : List ℕ) → let o = write.planeOutcome k w h rows (length d) in Refusing (write.number (write.answerOf o))
       → write.targetAfter o d ≡ d
+  -- kg_compare: the list
+  pub compare-parts : (a b list : List ℕ)
+      → let r = compare.answerOf (compare.comparedOf a b (length list)) in Parts (compare.number r) (compare.value r) (comparedWord r)
+  pub compare-stays : (a b list : List ℕ) → let o = compare.comparedOf a b (length list) in Refusing (compare.number (compare.answerOf o))
+      → compare.listAfter o list ≡ list

@@ -4,7 +4,8 @@
 --
 -- Said of what the contracts of the calls promise (crate kildegrom): `testOf` and `afterLoad` of kg_load, `headerCall` and `headerAfter` of
 -- kg_header, `startNumber`, `startBytes`, `tickNumber`, `tickBytes` and `drawnOf` of the costume's calls, `smapOutcome` and `planeOutcome`,
--- `answerOf` and `targetAfter` of the writers, `hiddenOf` of kg_hidden, `stampNumber` and `stampFrame` of kg_stamp.
+-- `answerOf` and `targetAfter` of the writers, `hiddenOf` of kg_hidden, `stampNumber` and `stampFrame` of kg_stamp. What kg_compare says of two rooms'
+-- pixels and planes: page Request1.
 use Prim.Native.Nat.{ℕ, _+_, _-_, _*_, _/_, _%_, _≤_, _<_}
 use mathlib.Core.Path.{_≡_}
 use mathlib.Core.Bool.{Bool, false, cond}

@@ -2,6 +2,7 @@ pub mod Written
 pub mod Demand1
 pub mod Demand2
 pub mod Demand3
+pub mod Request1
 pub mod Request2
 pub mod Request5
 pub mod PictureRefusals

@@ -24,6 +24,7 @@ use Rattle.costume.specs.Start as start
 use Rattle.costume.specs.Start.{startedOf}
 use Rattle.block_writer.specs.Call.{smapOutcome, planeOutcome, answerOf}
 use Rattle.block_writer.specs.Call as writer
+use Rattle.compare.specs.Compare as compare
 
 -- 0, or one of three numbers or of two
 abbrev pub Among3 : (a b c n : ℕ) → Type 0
@@ -58,3 +59,5 @@ pub record Numbers : Type 0 where
   -- kg_write_smap, kg_write_plane: 3, 4
   pub of-smap : (w h : ℕ) (rows : List ℕ) (size : ℕ) → Among2 3 4 (writer.number (answerOf (smapOutcome w h rows size)))
   pub of-plane : (k w h : ℕ) (rows : List ℕ) (size : ℕ) → Among2 3 4 (writer.number (answerOf (planeOutcome k w h rows size)))
+  -- kg_compare: 1 to 8 and 16
+  pub of-compare : (a b : List ℕ) (size : ℕ) → UpToOr 8 16 (compare.number (compare.answerOf (compare.comparedOf a b size)))

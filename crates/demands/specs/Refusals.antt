@@ -54,6 +54,7 @@ use Rattle.block_writer.specs.Block.{smapBlock, planeBlock}
 use Rattle.block_writer.specs.Call.{sizesAllowed, smapOutcome, planeOutcome, answerOf}
 use Rattle.block_writer.specs.Call as writer
 use Rattle.stored.specs.Layout.{sessionSize}
+use Rattle.compare.specs.Compare as compare
 use Rattle.demands.specs.RoomRefusals.{NotOneRoom, NeededMissing, ObjectLacks, OutOfSizes, OutOfRange, OutOfPicture, TableBad, OtherSession}
 use Rattle.demands.specs.RoomRefusals.{NotDrawable, NotAllowed}
 use Rattle.demands.specs.CostumeRefusals.{NumbersWrong, CommandWrong, RecordWrong, SomePlaceWrong, SomeLimbWrong}
@@ -127,6 +128,19 @@ AtPicture s l o st p P =
 abbrev pub drawNumber : List ℕ → play.Lent → (o st : ℕ) → Place → ℕ
 drawNumber s b o st p = play.numberOf s b (Make (Draw o st p))
 
+-- ---- kg_compare of the rooms a and b with a list of `size` bytes
+
+abbrev pub compareNumber : (a b : List ℕ) → (size : ℕ) → ℕ
+compareNumber a b size = compare.number (compare.answerOf (compare.comparedOf a b size))
+
+-- both rooms pass their tests, and P holds of them
+abbrev pub AtBoth : (a b : List ℕ) → (Room → Room → Type 0) → Type 0
+AtBoth a b P = (ra : Room) × (rb : Room) × (roomTest nothing a ≡ Right ra) × (roomTest nothing b ≡ Right rb) × P ra rb
+
+-- how many strips differ
+abbrev pub stripsOff : (a b : List ℕ) → (ra rb : Room) → ℕ
+stripsOff a b ra rb = length (compare.differences (compare.rooms a ra b rb))
+
 -- ---- the table
 
 pub record Refusals : Type 0 where
@@ -138,6 +152,8 @@ pub record Refusals : Type 0 where
   pub accepted-hide : (s : List ℕ) (b : play.Lent) (o : ℕ)
       → (play.numberOf s b (Make (Hide o)) ≡ 0) ↔ AtStep s b (λ r ss. some (λ e. eqb (e .object) o) (ss .shown) ≡ true)
   pub accepted-take-back : (s : List ℕ) (b : play.Lent) → (play.numberOf s b TakeBack ≡ 0) ↔ AtSession s b (λ r ss. ss .history ≡ [] → ⊥)
+  pub accepted-compare : (a b : List ℕ) (size : ℕ) → (compareNumber a b size ≡ 0)
+      ↔ AtBoth a b (λ ra rb. (ra .width ≡ rb .width) × (ra .height ≡ rb .height) × (stripsOff a b ra rb ≤ size / 8))
   -- 1: "the slice isn't one ROOM block filling it, is over the size, a block size is below 8 or passes its parent, children don't fill a container, or
   -- a block stands at depth 7"
   pub one : (lent : Lent) (s : List ℕ) → (numberOf (roomTest lent s) ≡ 1) ↔ (wellFormed s ≡ false)
@@ -186,6 +202,9 @@ pub record Refusals : Type 0 where
   pub four-plane : (k w h : ℕ) (rows : List ℕ) (size : ℕ)
       → (writer.number (answerOf (planeOutcome k w h rows size)) ≡ 4)
       ↔ ((sizesAllowed w h ≡ true) × (1 ≤ k) × (k ≤ 4) × ((length rows < h * (w / 8)) ⊎ (size < length (planeBlock k (w / 8) h rows))))
+  -- "then 4 when the lent list has fewer places than strips that differ": a place has 8 bytes
+  pub four-compare : (a b : List ℕ) (size : ℕ) → (compareNumber a b size ≡ 4)
+      ↔ AtBoth a b (λ ra rb. (ra .width ≡ rb .width) × (ra .height ≡ rb .height) × (size / 8 < stripsOff a b ra rb))
   -- 5: "a strip table doesn't fit its block, or an offset is wrong"
   pub five : (lent : Lent) (s : List ℕ) → (numberOf (roomTest lent s) ≡ 5) ↔ AtRoom lent s (λ r. TableWrong s (pictureOf r))
   pub table-bad : (mask : Bool) (n : ℕ) (s : List ℕ) (b z : ℕ) → (tableRight mask n s b z ≡ false) ↔ TableBad mask n s b z
@@ -254,6 +273,9 @@ pub record Refusals : Type 0 where
   pub place-wrong : (l : List ℕ) → (placesRight l ≡ false) ↔ SomePlaceWrong l
   pub limb-wrong : (n : ℕ) (l : List ℕ) → (limbsRight n l ≡ false) ↔ SomeLimbWrong n l
   pub record-wrong : (s : List ℕ) (o n : ℕ) → (offsetRight s o n ≡ false) ↔ RecordWrong s o n
+  -- 16, change request 1: "when W or H differs"
+  pub sixteen : (a b : List ℕ) (size : ℕ) → (compareNumber a b size ≡ 16)
+      ↔ AtBoth a b (λ ra rb. (ra .width ≡ rb .width → ⊥) ⊎ (ra .height ≡ rb .height → ⊥))
   -- "Every call that takes room bytes tests the whole room as the load does": the load's test and the record's, which give their numbers, and that of a
   -- draw, a hide or a take-back
   pub test-of-load : (s : List ℕ) (b : play.Lent)
@@ -272,3 +294,9 @@ pub record Refusals : Type 0 where
   pub room-of-header : (s lent : List ℕ) (k n : ℕ) → 1 ≤ n → n ≤ 8
       → (placeNumber (headerCall s lent k) ≡ n) ↔ (numberOf (roomTest (fixedOnly 16 (length lent)) s) ≡ n)
   pub room-of-name : (s : List ℕ) (k n : ℕ) → 1 ≤ n → n ≤ 8 → (nameNumber s k ≡ n) ↔ (numberOf (roomTest nothing s) ≡ n)
+  -- change request 1: "room A's first, then room B's"
+  pub rooms-of-compare : (a b : List ℕ) (size n : ℕ) → 1 ≤ n → n ≤ 8 → (n ≡ 4 → ⊥)
+      → (compareNumber a b size ≡ n)
+      ↔ ((numberOf (roomTest nothing a) ≡ n) ⊎ ((numberOf (roomTest nothing a) ≡ 0) × (numberOf (roomTest nothing b) ≡ n)))
+  -- with nothing lent a room's test gives no 4
+  pub no-four : (s : List ℕ) → numberOf (roomTest nothing s) ≡ 4 → ⊥

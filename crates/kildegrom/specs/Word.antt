@@ -9,6 +9,8 @@ use Rattle.limbs.specs.Limb as limb
 use Rattle.limbs.specs.declared.Drawn.{Drawn}
 use Rattle.block_writer.specs.Call as write
 use Rattle.block_writer.specs.declared.Wrote.{Wrote}
+use Rattle.compare.specs.Compare as compare
+use Rattle.compare.specs.declared.Compared.{Compared}
 use Rattle.point.specs.Call as point
 use Rattle.point.specs.declared.Pointed.{Pointed}
 
@@ -34,3 +36,7 @@ wroteWord a = word (write.number a) (write.value a)
 -- kg_object_at: the value is the object's number, 0 for no object
 abbrev pub pointedWord : Pointed → ℕ
 pointedWord a = word (point.number a) (point.value a)
+
+-- kg_compare: the value is how many places of the list were filled
+abbrev pub comparedWord : Compared → ℕ
+comparedWord a = word (compare.number a) (compare.value a)

@@ -1,0 +1,3 @@
+pub mod Compare
+pub mod Listed
+pub mod Tables
