@@ -2,7 +2,7 @@
 
 use crate::room::Room;
 use common::calls::*;
-use reference::{actor, load as loads, object, point, session as sessions};
+use reference::{actor, compare as compares, load as loads, object, point, session as sessions};
 
 #[derive(Clone, Copy, PartialEq)]
 pub enum Side {
@@ -124,6 +124,19 @@ pub fn object_at(side: Side, room: &[u8], session: &[u8], flags: &[u8], (x, y): 
             (answer >> 32) as usize
         }
         Side::Reference => point::object_at(room, session, flags, x, y).expect("a point"),
+    }
+}
+
+/// Two rooms compared: how many places of the list are filled.
+pub fn compare(side: Side, [a, b]: &[Room; 2], list: &mut [u8]) -> usize {
+    let (a, b) = (a.bytes(), b.bytes());
+    match side {
+        Side::Library => {
+            let answer = unsafe { kg_compare(a.as_ptr(), a.len(), b.as_ptr(), b.len(), list.as_mut_ptr(), list.len()) };
+            assert_eq!(answer as u32, 0, "a comparison was refused");
+            (answer >> 32) as usize
+        }
+        Side::Reference => compares::compare(a, b, list).expect("a comparison"),
     }
 }
 

@@ -5,6 +5,9 @@ use crate::loads::Times;
 /// A load, test and painting together, as a multiple of one unchecked pass.
 const MOST: f64 = 2.5;
 
+/// A comparison as a multiple of the two loads of its rooms.
+const MOST_LOADS: f64 = 1.25;
+
 /// The largest ratio seen, and where.
 #[derive(Default)]
 struct Worst {
@@ -34,6 +37,7 @@ pub struct Goals {
     pass: Worst,
     reference: Worst,
     calls: Worst,
+    compares: Worst,
 }
 
 impl Goals {
@@ -47,9 +51,16 @@ impl Goals {
         self.calls.see(times[0] / times[1], 1.0, place);
     }
 
+    /// The times of library, reference and the two loads.
+    pub fn compare(&mut self, times: &[f64; 3], place: &str) {
+        self.compares.see(times[0] / times[2], MOST_LOADS, place);
+        self.call(times, &format!("compare, {place}"));
+    }
+
     pub fn print(&self) {
         self.pass.print(&format!("a load takes at most {MOST} unchecked passes"));
         self.reference.print("a load is never slower than the reference");
         self.calls.print("no other call is slower than the reference");
+        self.compares.print(&format!("a comparison takes about two loads, at most {MOST_LOADS} times as long"));
     }
 }

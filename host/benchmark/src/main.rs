@@ -9,6 +9,7 @@
 
 mod calls;
 mod clock;
+mod compares;
 mod count;
 mod goal;
 mod growth;
@@ -36,6 +37,7 @@ fn tables(effort: Effort) {
     loads::tables(effort, goals);
     steps::tables(effort, goals);
     growth::tables(effort, goals);
+    compares::tables(effort, goals);
     match effort {
         Effort::Full => goals.print(),
         Effort::Quick => println!("quick: all results agree; the times were taken once and mean little"),

@@ -102,6 +102,7 @@ extern "C" {
     ) -> u64;
     pub fn kg_tick(payload: *const u8, payload_size: usize, limbs: *mut u8, limbs_size: usize, command: u32) -> u32;
     pub fn kg_limb_draws(limbs: *const u8, limbs_size: usize, limb: u32) -> u64;
+    pub fn kg_compare(a: *const u8, a_size: usize, b: *const u8, b_size: usize, list: *mut u8, list_size: usize) -> u64;
     pub fn kg_write_smap(rows: *const u8, rows_size: usize, out: *mut u8, out_size: usize, w: u32, h: u32) -> u64;
     pub fn kg_write_plane(rows: *const u8, rows_size: usize, out: *mut u8, out_size: usize, w: u32, h: u32, k: u32) -> u64;
 }

@@ -7,7 +7,7 @@ fn hides(masks: &[u8], w: usize, h: usize, n: usize, clip: usize, x: usize, y: u
     clip >= 1 && clip <= n && masks[((clip - 1) * h + y) * (w / 8) + x / 8] >> (7 - x % 8) & 1 == 1
 }
 
-/// The hidden-pixel question: 3, then 4, then 14, whatever the clip (READINGS 1).
+/// The hidden-pixel question: 3, then 4, then 14, whatever the clip.
 pub fn hidden(masks: &[u8], w: u32, h: u32, n: u32, clip: u32, x: u32, y: u32) -> Result<bool, u32> {
     let [w, h, n, clip, x, y] = [w, h, n, clip, x, y].map(|number| number as usize);
     if !sizes_ok(w, h, n) {

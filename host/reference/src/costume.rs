@@ -15,7 +15,7 @@ const LENGTH: usize = 5;
 const START: usize = 8;
 const PLACE: usize = 12;
 
-/// "a stored v means payload byte v − 6, and the stream runs to the end"; an empty stream is one too (READINGS 56).
+/// "a stored v means payload byte v − 6, and the stream runs to the end"; an empty stream is one too.
 fn stream(payload: &[u8], command: u32) -> Result<&[u8], u32> {
     (command as usize).checked_sub(6).and_then(|at| payload.get(at..)).ok_or(ANIMATION)
 }

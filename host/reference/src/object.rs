@@ -25,7 +25,7 @@ pub fn header(room: &[u8], header: &mut [u8], object: u32) -> u32 {
 }
 
 /// "OBNA up to its first NUL or its end, `@` kept, empty if there is no OBNA": number, start and length. An empty name without OBNA,
-/// or a refused one, is 0 and 0; one with OBNA stands where OBNA's payload does (READINGS 24).
+/// or a refused one, is 0 and 0; one with OBNA stands where OBNA's payload does.
 pub fn name(room: &[u8], object: u32) -> (u32, usize, usize) {
     match test(room, |_| true).and_then(|painted| object_at(&painted.room, object)) {
         Err(number) => (number, 0, 0),

@@ -6,12 +6,12 @@ use crate::{load, write};
 
 const SIZE: (usize, usize) = (24, 8);
 
-fn block(tag: &str, parts: &[Vec<u8>]) -> Vec<u8> {
+pub fn block(tag: &str, parts: &[Vec<u8>]) -> Vec<u8> {
     let payload = parts.concat();
     [tag.as_bytes(), &(8 + payload.len() as u32).to_be_bytes(), &payload].concat()
 }
 
-fn u16s(numbers: &[u16]) -> Vec<u8> {
+pub fn u16s(numbers: &[u16]) -> Vec<u8> {
     numbers.iter().flat_map(|number| number.to_le_bytes()).collect()
 }
 

@@ -2,7 +2,7 @@
 
 use crate::comparison::Comparison;
 use common::calls::*;
-use reference::{actor, costume, load as loads, object, session as sessions, write};
+use reference::{actor, compare as compares, costume, load as loads, object, session as sessions, write};
 
 /// A number alone, and a number with a value (docs/LAYOUTS.md, "Answers of two parts").
 fn number(number: u32) -> (u32, u64) {
@@ -164,6 +164,22 @@ pub fn limb_draws(b: &mut Comparison, limbs: &[u8], limb: u32) -> u32 {
         word(costume::limb_draws(limbs, limb).map(|picture| picture.map_or(0, |picture| 256 + picture as usize)))
     });
     number
+}
+
+/// The comparison of two rooms: its number, how many places it fills, and the list afterwards.
+pub fn compare(b: &mut Comparison, one: &[u8], other: &[u8], list: &[u8]) -> (u32, usize, Vec<u8>) {
+    let library = |p: &[*mut u8]| unsafe { kg_compare(p[0], one.len(), p[1], other.len(), p[2], list.len()) };
+    let buffers = [("a", one), ("b", other), ("list", list)];
+    let (number, answer, mut after) = b.case("compare", &[], &buffers, library, |after| word(compares::compare(one, other, &mut after[2])));
+    (number, (answer >> 32) as usize, after.pop().unwrap())
+}
+
+/// The same where both rooms are one place in memory.
+pub fn compare_itself(b: &mut Comparison, room: &[u8], list: &[u8]) -> (u32, usize, Vec<u8>) {
+    let library = |p: &[*mut u8]| unsafe { kg_compare(p[0], room.len(), p[0], room.len(), p[1], list.len()) };
+    let (number, answer, mut after) =
+        b.case("compare", &[], &[("room", room), ("list", list)], library, |after| word(compares::compare(room, room, &mut after[1])));
+    (number, (answer >> 32) as usize, after.pop().unwrap())
 }
 
 /// A written block, header included; nothing if refused.

@@ -3,12 +3,13 @@
 use crate::end_count::EndCount;
 use crate::lent::Slot;
 use crate::limbs::{self, Kind, Question};
+use crate::pair_count::PairCount;
 use crate::rng::Rng;
 use crate::shapes::{shapes, Shape};
 use std::collections::BTreeMap;
 use std::sync::atomic::{AtomicU64, AtomicUsize, Ordering::Relaxed};
 
-pub const CALLS: [&str; 17] = [
+pub const CALLS: [&str; 18] = [
     "record",
     "load",
     "draw_last",
@@ -24,11 +25,14 @@ pub const CALLS: [&str; 17] = [
     "start",
     "tick",
     "limb_draws",
+    "compare",
     "write_smap",
     "write_plane",
 ];
 /// A full run must have reached them all.
-const NUMBERS: [u32; 16] = [0, 1, 2, 3, 4, 5, 6, 7, 8, 9, 10, 11, 12, 13, 14, 15];
+const NUMBERS: [u32; 17] = [0, 1, 2, 3, 4, 5, 6, 7, 8, 9, 10, 11, 12, 13, 14, 15, 16];
+/// A full run must have reached these of the comparison too, which alone gives 16.
+const COMPARED: [u32; 10] = [0, 1, 2, 3, 4, 5, 6, 7, 8, 16];
 
 /// Where a deliberate body is read. A full run must have reached them all in both.
 #[derive(Clone, Copy, Debug, PartialEq, Eq, PartialOrd, Ord)]
@@ -65,6 +69,8 @@ pub struct Comparison {
     limbs: BTreeMap<(Kind, Question), u64>,
     /// The same for the deliberate ends of bodies.
     pub ends: EndCount,
+    /// The same for the deliberate pairs of rooms.
+    pub pairs: PairCount,
     /// Whether a call's first buffer, its room, ends with its page; else it may stand anywhere. A scene begins without it.
     pub room_at_page_end: bool,
     differences: BTreeMap<String, u64>,
@@ -84,6 +90,7 @@ impl Comparison {
             shapes: shapes().into_iter().map(|shape| (shape, [0; 2])).collect(),
             limbs: limbs::cases().map(|case| (case, 0)).collect(),
             ends: EndCount::default(),
+            pairs: PairCount::default(),
             room_at_page_end: false,
             differences: BTreeMap::new(),
         }
@@ -200,6 +207,13 @@ impl Comparison {
         NUMBERS.into_iter().filter(|number| sum(*number) == 0).map(|number| number.to_string()).collect()
     }
 
+    /// The comparison's numbers that it never gave.
+    fn compared(&self) -> Vec<String> {
+        let index = CALLS.iter().position(|call| *call == "compare").expect("a call");
+        let missing = COMPARED.into_iter().filter(|number| !self.counts.contains_key(&(index, *number)));
+        missing.map(|number| format!("compare's {number}")).collect()
+    }
+
     /// The table of deliberate bodies, and those that weren't reached in both places.
     fn bodies(&self) -> Vec<String> {
         println!("{:<32}{:>9}{:>12}{:>9}", "deliberate bodies", "number", "background", "image");
@@ -223,6 +237,8 @@ impl Comparison {
             missing.extend(self.bodies());
             missing.extend(self.limbs());
             missing.extend(self.ends.report());
+            missing.extend(self.compared());
+            missing.extend(self.pairs.report());
         }
         if full && !missing.is_empty() {
             println!("never reached: {missing:?}");

@@ -1,6 +1,6 @@
 //! Differential tests: the library's C interface against the reference.
 //!
-//!     tests [SEEDS]          seeds 0 to SEEDS − 1, the planned ends of bodies, then the tables
+//!     tests [SEEDS]          seeds 0 to SEEDS − 1, the planned ends of bodies and pairs of rooms, then the tables
 //!     tests soak SECONDS     new seeds until the time is over, and the same
 //!     tests seed SEED        one seed again
 //!     tests room FILE        the calls on a room from a file
@@ -8,6 +8,7 @@
 
 mod actor_scenes;
 mod calls;
+mod compare_scenes;
 mod comparison;
 mod costume_scenes;
 mod damage;
@@ -17,7 +18,11 @@ mod ends;
 mod lent;
 mod limbs;
 mod maker;
+mod pair_count;
+mod pair_rooms;
+mod pairs;
 mod point_scenes;
+mod recode;
 mod rng;
 mod room_scenes;
 mod rooms;
@@ -38,13 +43,19 @@ const SEEDS: u64 = 100_000;
 /// A seed from here on is a code's planned ends of bodies. A full run takes one for each code, so that none is left to chance.
 const ENDS: u64 = 1 << 63;
 
+/// A seed from here on is a planned pair of rooms. A full run takes each of them.
+const PAIRS: u64 = 3 << 62;
+
 fn run(b: &mut Comparison, seed: u64) {
     let mut r = b.scene(seed);
     let r = &mut r;
     match seed % 40 {
+        _ if seed >= PAIRS => compare_scenes::planned(b, r, (seed - PAIRS) as usize),
         _ if seed >= ENDS => end_scenes::planned(b, r, (seed - ENDS) as usize),
-        0..=6 => room_scenes::good(b, r),
-        7..=12 => room_scenes::damaged(b, r),
+        0..=5 => room_scenes::good(b, r),
+        6 => compare_scenes::versions(b, r),
+        7..=11 => room_scenes::damaged(b, r),
+        12 => compare_scenes::strangers(b, r),
         13..=15 => room_scenes::order(b, r),
         16 => room_scenes::bodies(b, r),
         17 | 18 => room_scenes::flipped(b, r),
@@ -126,6 +137,7 @@ fn main() {
     }
     if full {
         (ENDS..ENDS + ends::codes().len() as u64).for_each(|seed| run(b, seed));
+        (PAIRS..PAIRS + pairs::planned().len() as u64).for_each(|seed| run(b, seed));
     }
     if !b.report(full) {
         std::process::exit(1);

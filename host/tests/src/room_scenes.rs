@@ -5,7 +5,7 @@ use crate::rng::Rng;
 use crate::rooms::{self, Plan};
 use crate::strips::{any_code, mask_body, pixel_body, Fault, Strips};
 use crate::tree::leaf;
-use crate::{calls, damage, session_scenes};
+use crate::{calls, compare_scenes, damage, session_scenes};
 
 /// A buffer of about `need` bytes that holds anything: exactly as long, one shorter, longer or empty.
 pub fn lent(r: &mut Rng, need: usize) -> Vec<u8> {
@@ -186,6 +186,7 @@ pub fn given(b: &mut Comparison, room: &[u8]) {
         calls::header(b, room, &[1; 16], object);
         calls::name(b, room, object);
     }
+    compare_scenes::given(b, room);
     session_scenes::given(b, room);
 }
 

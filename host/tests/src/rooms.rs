@@ -4,6 +4,7 @@ use crate::rng::Rng;
 use crate::strips;
 use crate::tree::{container, leaf, Body, Node};
 
+#[derive(Clone)]
 pub struct Plan {
     pub w: usize,
     pub h: usize,

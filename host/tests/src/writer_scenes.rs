@@ -61,7 +61,7 @@ fn structured(r: &mut Rng, size: usize, stride: usize) -> Vec<u8> {
 }
 
 /// A good room around a written background and planes.
-fn around(w: usize, h: usize, blocks: &[Vec<u8>]) -> Vec<u8> {
+pub fn around(w: usize, h: usize, blocks: &[Vec<u8>]) -> Vec<u8> {
     let block = |bytes: &Vec<u8>| leaf(bytes[..4].try_into().unwrap(), bytes[8..].to_vec());
     let image: Vec<Node> = blocks.iter().map(block).collect();
     let planes = (blocks.len() - 1) as u8;
