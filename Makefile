@@ -5,9 +5,10 @@
 #     make uninstall PREFIX=/usr/local removes these three files; folders stay
 #     make example                     target/host/example, from which a host can start
 #     make show                        target/host/show, the picture of a room
+#     make compare                     target/host/compare, in what two rooms differ
 #     make write                       target/host/write, one block
-#     make programs                    example, show and write
-#     make picture                     docs/harbour.png, the picture of the README
+#     make programs                    example, show, compare and write
+#     make picture                     docs/harbour.png and docs/compared.png, the pictures of the README
 #     make test                        ./test
 #     make check                       ./test, too
 #     make clean                       removes target/: what was built, and what rt has proved
@@ -21,7 +22,7 @@ INSTALL = install
 
 LIBRARY = target/staticlib/libkildegrom.a
 OUT = target/host
-PROGRAMS = example show write
+PROGRAMS = example show compare write
 COMPILE = $(CC) -std=c99 -Wall -Wextra -pedantic $(CFLAGS) -Iinclude
 
 .PHONY: all install uninstall picture programs test check clean help $(PROGRAMS)
@@ -43,7 +44,8 @@ programs: $(PROGRAMS)
 $(PROGRAMS): %: $(OUT)/%
 
 $(OUT)/example: host/example/example.c
-$(OUT)/show: host/show/show.c
+$(OUT)/show: host/show/show.c host/programs.h
+$(OUT)/compare: host/compare/compare.c host/programs.h
 $(OUT)/write: host/write/write.c
 $(OUT)/%: include/kildegrom.h $(LIBRARY)
 	@mkdir -p $(OUT)
@@ -59,13 +61,17 @@ install: $(LIBRARY)
 uninstall:
 	rm -f "$$TREE/include/kildegrom.h" "$$TREE/lib/libkildegrom.a" "$$TREE/lib/pkgconfig/kildegrom.pc"
 
-picture: docs/harbour.png
+picture: docs/harbour.png docs/compared.png
 
 SHOW_HARBOUR = ./show rooms/harbour.room rooms/harbour.calls --palette rooms/harbour.pal
 docs/harbour.png: rooms/harbour.room rooms/harbour.calls rooms/harbour.pal tools/png $(OUT)/show
 	$(SHOW_HARBOUR) > $(OUT)/harbour.ppm
 	$(SHOW_HARBOUR) --plane 1 --boxes > $(OUT)/harbour-plane.ppm
 	tools/png --scale 2 $(OUT)/harbour.ppm $(OUT)/harbour-plane.ppm > $@
+
+# Status 1 says that the rooms differ, as these do.
+docs/compared.png: rooms/harbour.room rooms/harbour-b.room rooms/harbour.pal tools/png $(OUT)/compare
+	./compare rooms/harbour.room rooms/harbour-b.room --palette rooms/harbour.pal --picture $@ || [ $$? -eq 1 ]
 
 test check:
 	./test

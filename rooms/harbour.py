@@ -1,5 +1,7 @@
 #!/usr/bin/env python3
-"""Makes rooms/harbour.room and rooms/harbour.pal: a harbour at dusk, 320 x 144, two planes, six objects with images.
+"""Makes rooms/harbour.room and rooms/harbour.pal: a harbour at dusk, 320 x 144, two planes, six objects with images. And version B of the
+room, rooms/harbour-b.room, for ./compare: a crate stands elsewhere, the sign is repainted, the rope hides less, two objects have changed, and
+some strips of the background that are alike have other codes.
 
 Run it from the repository's top folder: `python3 rooms/harbour.py [FOLDER]`; FOLDER stands for rooms. Pictures and planes are written by
 the project's own writers, through host/write. The writers make opaque strips only (code 1C); a strip of an object's image with a
@@ -12,7 +14,7 @@ import subprocess
 import sys
 
 sys.dont_write_bytecode = True
-from make import block, imhd, obcd, rmhd, rmim  # noqa: E402
+from make import block, imhd, obcd, raw, rmhd, rmim, table, with_runs  # noqa: E402
 
 W, H = 320, 144
 HORIZON, QUAY = 74, 100
@@ -244,13 +246,16 @@ def roof(p):
 
 
 LETTERS = {"I": ("111", "010", "010", "010", "010", "010", "111"),
-           "N": ("10001", "11001", "11001", "10101", "10011", "10011", "10001")}
+           "N": ("10001", "11001", "11001", "10101", "10011", "10011", "10001"),
+           "B": ("1110", "1001", "1001", "1110", "1001", "1001", "1110"),
+           "A": ("01110", "10001", "10001", "11111", "10001", "10001", "10001"),
+           "R": ("1110", "1001", "1001", "1110", "1100", "1010", "1001")}
 
 
-def sign(p):
+def sign(p, word):
     p.fill((225, 30, 257, 42), lambda x, y: shade("WOOD", 0.15 if x in (225, 256) or y in (30, 41) else 0.62 + 0.1 * noise(x // 4, y)))
     left = 232
-    for letter in (LETTERS[name] for name in "INN"):
+    for letter in (LETTERS[name] for name in word):
         for y, row in enumerate(letter):
             for x, bit in enumerate(row):
                 if bit == "1":
@@ -296,17 +301,27 @@ def rope(p, x0, x1, y, sag):
         p.put(x, low + 1, shade("PLASTER", 0.45), (1, 2))
 
 
-def background():
+def background(word="INN", upper_crate=(12, 64)):
     p = Picture(W, H)
-    for part in (sky, moon, hills, sea, ship, quay, wall, roof, sign, doorway):
+    for part in (sky, moon, hills, sea, ship, quay, wall, roof):
         part(p)
+    sign(p, word)
+    doorway(p)
     crate(p, 4, 86, 30, (1,))
     crate(p, 34, 92, 24, (1,))
-    crate(p, 12, 64, 22, (1,))
+    crate(p, *upper_crate, 22, (1,))
     post(p, 74, 104)
     post(p, 150, 104)
     rope(p, 84, 150, 118, 14)
     rope(p, 0, 74, 118, 10)
+    return p
+
+
+def background_b():
+    """The upper crate stands at the wall, the sign has another word, and the foot of a post, in strip 19, is no longer in plane 2."""
+    p = background("BAR", (284, 92))
+    for row in p.planes[1][120:]:
+        row[19] = 0
     return p
 
 
@@ -440,19 +455,40 @@ def smap(p):
     return bytes(made)
 
 
-def image(p):
+def recoded(p, other):
+    """The same strips as smap's; some of those that the other picture has too in other codes, raw (01) or with runs (44)."""
+    made = smap(p)
+    ends = list(struct.unpack_from("<%dI" % (p.w // 8), made, 8)) + [len(made)]
+    bodies = [made[ends[s]:ends[s + 1]] for s in range(p.w // 8)]
+    for s, code in [(s, with_runs) for s in range(0, p.w // 8, 3)] + [(s, raw) for s in range(1, p.w // 8, 6)]:
+        strip = [row[8 * s:8 * s + 8] for row in p.rows]
+        if strip == [row[8 * s:8 * s + 8] for row in other.rows]:
+            bodies[s] = code(b"".join(strip))
+    return block(b"SMAP", table(4, bodies))
+
+
+def image(p, strips=smap):
     planes = b"".join(written(p.planes[k], "plane", p.w, p.h, k + 1) for k in range(2) if any(map(any, p.planes[k])))
-    return smap(p) + planes
+    return strips(p) + planes
 
 
-def room():
+def room(picture, kinds=OBJECTS):
     images, objects = b"", b""
-    for k, (name, draw, states, (x, y), (w, h), rest) in enumerate(OBJECTS):
+    for k, (name, draw, states, (x, y), (w, h), rest) in enumerate(kinds):
         number = 201 + k
         bodies = b"".join(block(b"IM%02d" % s, image(draw(s))) for s in range(1, states + 1))
         images += block(b"OBIM", imhd(number, states, 8 * x, 8 * y, 8 * w, 8 * h) + bodies)
         objects += obcd(number, name, x=x, y=y, w=w, h=h, **rest)
-    return block(b"ROOM", rmhd(W, H, len(OBJECTS)) + rmim(2, image(background())) + images + objects)
+    return block(b"ROOM", rmhd(W, H, len(kinds)) + rmim(2, picture) + images + objects)
+
+
+def room_b(a):
+    """Version B: its background, a keg in place of the barrel, and a gull that is looked at from nearer."""
+    b = background_b()
+    kinds = list(OBJECTS)
+    kinds[1] = (b"keg@@@", *OBJECTS[1][1:])
+    kinds[5] = (*OBJECTS[5][:5], dict(walk=(60, 126)))
+    return room(image(b, lambda p: recoded(p, a)), kinds)
 
 
 def stop(why):
@@ -467,10 +503,11 @@ def main(words):
         stop("usage: python3 rooms/harbour.py [FOLDER]; the folder is there already")
     folder = (words + ["rooms"])[0]
     subprocess.run(["make", "-s", "write"], stdout=subprocess.DEVNULL, check=True)
-    made = room()
-    if len(made) > 65536:
-        stop("the room has %d bytes, more than ./list reads" % len(made))
-    open(folder + "/harbour.room", "wb").write(made)
+    a = background()
+    for name, made in (("harbour", room(image(a))), ("harbour-b", room_b(a))):
+        if len(made) > 65536:
+            stop("%s.room has %d bytes, more than ./list reads" % (name, len(made)))
+        open("%s/%s.room" % (folder, name), "wb").write(made)
     open(folder + "/harbour.pal", "wb").write(PALETTE)
 
 

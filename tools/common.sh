@@ -1,6 +1,7 @@
 # shellcheck shell=bash disable=SC2154 # the variables are the program's
-# What ./list, ./play, ./show and tools/calls share. Each sets `name`, its name in messages, `self`, its own file, and, but for tools/calls,
-# `top`, the repository's folder, then reads this file. The comment at the head of `self` is its help: the first line is the usage.
+# What ./list, ./play, ./show, ./compare and tools/calls share. Each sets `name`, its name in messages, `self`, its own file, and, but for
+# tools/calls, `top`, the repository's folder, then reads this file. The comment at the head of `self` is its help: the first line is the
+# usage.
 
 stop() { printf '%s: %s\n' "$name" "$2" >&2; exit "$1"; } # STATUS TEXT
 help() { sed -n -e '1d' -e '/^#/!q' -e 's/^# \{0,1\}//p' "$self"; }
@@ -31,8 +32,11 @@ need_file() {
     [ -r "$1" ] || stop 2 "the file can't be read: $1"
 }
 
+# The exit status where standard output can't be written; ./compare has another.
+unwritten=1
+
 # Told before anything is proved.
-need_output() { { true 3>&1; } 2> /dev/null || stop 1 "standard output is closed"; }
+need_output() { { true 3>&1; } 2> /dev/null || stop "$unwritten" "standard output is closed"; }
 
 # copy_room FILE COPY: the bytes that the proved program is given. It takes 65,536; one more tells it, and us, that there are more.
 copy_room() {
@@ -42,12 +46,12 @@ copy_room() {
 }
 is_long() { [ "$(wc -c < "$1")" -gt 65536 ]; }
 
-# What a proved program wrote goes out whole, or the reason is told. Who closes a pipe early (status 141) needs none.
+# What a program wrote goes out whole, or the reason is told. Who closes a pipe early (status 141) needs none.
 write_out() { # TEXT
     local reason status=0
     { reason=$(printf '%s\n' "$1" 2>&1 >&3) || status=$?; } 3>&1
     [ "$status" -ne 141 ] || exit 141
-    [ "$status" -eq 0 ] || stop 1 "standard output can't be written: ${reason##*: }"
+    [ "$status" -eq 0 ] || stop "$unwritten" "standard output can't be written: ${reason##*: }"
 }
 
 # A room that a proved program refused, from the line that it wrote: why, and status 1.

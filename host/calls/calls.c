@@ -1,7 +1,6 @@
 /* Calls every function of include/kildegrom.h over the C interface: the sample room is loaded, written again block by block, loaded from
- * what was written, and an actor is stamped behind its plane. Guard bytes stand around each lent buffer. */
-#include "block.h"
-#include "lent.h"
+ * what was written, an actor is stamped behind its plane, and rooms are compared. Guard bytes stand around each lent buffer. */
+#include "room.h"
 
 enum { WIDTH = 320, HEIGHT = 144, STRIPS = WIDTH / 8 };
 
@@ -32,25 +31,6 @@ static void record_and_objects(struct lent room)
     give_back(header);
 }
 
-/* The room with its background and its plane written anew: a ROOM of RMHD, RMIM and nothing else. */
-static struct lent rewritten(struct lent room, struct lent pixels, struct lent masks)
-{
-    struct lent out = lend(room.size + 65536, 0);
-    uint8_t *at = out.at + 8 + 14 + 8 + 10 + 8;
-    uint64_t smap = kg_write_smap(pixels.at, pixels.size, at, out.size - 48, WIDTH, HEIGHT);
-    uint64_t zp = kg_write_plane(masks.at, masks.size, at + kg_value(smap), out.size - 48 - kg_value(smap), WIDTH, HEIGHT, 1);
-    uint32_t both = kg_value(smap) + kg_value(zp), k;
-    struct { const char *tag; uint32_t at, size; } heads[5] = {
-        { "ROOM", 0, 48 + both }, { "RMHD", 8, 14 }, { "RMIM", 22, 26 + both }, { "RMIH", 30, 10 }, { "IM00", 40, 8 + both } };
-    expect(kg_number(smap) == 0 && kg_number(zp) == 0 && memcmp(at, "SMAP", 4) == 0 && memcmp(at + kg_value(smap), "ZP01", 4) == 0, "the writers");
-    for (k = 0; k < 5; k++) put_head(out.at + heads[k].at, heads[k].tag, heads[k].size);
-    memcpy(out.at + 16, room.at + 16, 6);
-    memcpy(out.at + 38, "\1\0", 2);
-    out.size = 48 + both;
-    memset(out.at + out.size, 0xA5, GUARD);
-    return out;
-}
-
 static void load_and_write(struct lent room)
 {
     struct lent session = lend(KG_SESSION_SIZE + 5, 0x33), pixels = lend(WIDTH * HEIGHT, 1), masks = lend(STRIPS * HEIGHT, 2);
@@ -62,7 +42,7 @@ static void load_and_write(struct lent room)
     expect(kg_load(room.at, room.size, session.at, session.size, pixels.at, pixels.size, masks.at, masks.size) == KG_ACCEPTED, "the load");
     expect(all(session.at, KG_SESSION_SIZE, 0) && all(session.at + KG_SESSION_SIZE, 5, 0x33), "the emptied session");
     expect(pixels.at[0] == 40 && pixels.at[16] == 42 && masks.at[90 * STRIPS] == 255 && masks.at[50 * STRIPS + 4] == 0x3C, "the surfaces");
-    copy = rewritten(room, pixels, masks);
+    copy = room_of(pixels, masks, WIDTH, HEIGHT, 1);
     expect(kg_load(copy.at, copy.size, session.at, session.size, again.at, again.size, masks_again.at, masks_again.size) == KG_ACCEPTED,
            "the load of what was written");
     expect(memcmp(pixels.at, again.at, pixels.size) == 0 && memcmp(masks.at, masks_again.at, masks.size) == 0, "what was written reads back");
@@ -198,6 +178,150 @@ static void list_of_steps(struct lent room)
     give_back(earlier_masks);
 }
 
+/* The three changes of `changed_surfaces`: a pixel of strip 0; every pixel and a mask row of strip 20; a mask bit of strip 39. */
+static const uint8_t three_places[3 * KG_DIFFERENCE_SIZE] = { 0, 0, 1, 0, 0, 0, 0, 0, 20, 0, 0x80, 4, 1, 0, 0, 0, 39, 0, 0, 0, 1, 0, 0, 0 };
+
+static void changed_surfaces(struct lent pixels, struct lent masks)
+{
+    uint32_t i;
+    pixels.at[7] ^= 1;
+    for (i = 0; i < 8 * HEIGHT; i++) pixels.at[i / 8 * WIDTH + 160 + i % 8] ^= 0x80;
+    masks.at[20] ^= 0xFF;
+    masks.at[(HEIGHT - 1) * STRIPS + 39] ^= 1;
+}
+
+static uint64_t compared(struct lent a, struct lent b, struct lent list, size_t list_size)
+{
+    return kg_compare(a.at, a.size, b.at, b.size, list.at, list_size);
+}
+
+/* Lists of every length that matters, of 3 strips that differ. */
+static void compare_lists(struct lent room, struct lent changed)
+{
+    const uint64_t three = (uint64_t)3 << 32;
+    struct lent list = lend(sizeof three_places, 0x77), longer = lend(KG_MAX_DIFFERENCES + 3, 0x77);
+    expect(compared(room, changed, list, 0) == KG_BUFFER_SHORT, "a list of no place");
+    expect(compared(room, changed, list, list.size - 8) == KG_BUFFER_SHORT, "a list one place short");
+    expect(compared(room, changed, list, list.size - 1) == KG_BUFFER_SHORT, "a list one byte short");
+    expect(all(list.at, list.size, 0x77), "a refused comparison leaves the list");
+    expect(compared(room, changed, list, list.size) == three, "a list exactly long enough");
+    expect(memcmp(list.at, three_places, sizeof three_places) == 0, "the places");
+    memset(list.at, 0x77, list.size);
+    expect(compared(changed, room, list, list.size) == three && memcmp(list.at, three_places, list.size) == 0, "the other way round");
+    expect(compared(room, changed, longer, 31) == three, "a list of three places and seven bytes");
+    expect(memcmp(longer.at, three_places, 24) == 0 && all(longer.at + 24, longer.size - 24, 0x77), "the bytes of no whole place stay");
+    memset(longer.at, 0x77, longer.size);
+    expect(compared(room, changed, longer, longer.size) == three, "a list longer than any comparison needs");
+    expect(memcmp(longer.at, three_places, 24) == 0 && all(longer.at + 24, longer.size - 24, 0x77), "the bytes behind the places stay");
+    give_back(list);
+    give_back(longer);
+}
+
+/* What is alike needs no place: the same bytes, the same bytes elsewhere, and the same content in other blocks. */
+static void compare_alike(struct lent room, struct lent rewritten)
+{
+    struct lent list = lend(KG_MAX_DIFFERENCES, 0x77), copy = lend(room.size, 0);
+    memcpy(copy.at, room.at, room.size);
+    expect(compared(room, room, list, 0) == 0 && compared(room, room, list, list.size) == 0, "a room against itself, the same bytes");
+    expect(compared(room, copy, list, 0) == 0 && compared(room, copy, list, list.size) == 0, "a room against a copy");
+    expect(compared(room, rewritten, list, 0) == 0 && compared(rewritten, room, list, list.size) == 0, "objects are not compared");
+    expect(all(list.at, list.size, 0x77), "a list without places stays");
+    give_back(list);
+    give_back(copy);
+}
+
+/* Planes up to the larger N: the cellar's plane 1 has a row of bits in every strip. Byte 38 of a room of `room_of` is its N. */
+static void compare_planes(struct lent room, struct lent rewritten)
+{
+    struct lent list = lend(STRIPS * KG_DIFFERENCE_SIZE, 0x77);
+    uint32_t s;
+    rewritten.at[38] = 4;
+    expect(compared(room, rewritten, list, 0) == 0 && compared(rewritten, room, list, 0) == 0, "planes without a block read as zero");
+    rewritten.at[38] = 0;
+    expect(compared(room, rewritten, list, list.size - 1) == KG_BUFFER_SHORT, "a place for each strip is needed");
+    expect(all(list.at, list.size, 0x77), "a comparison with a place too few leaves the list");
+    for (s = 0; s < 2; s++) {
+        memset(list.at, 0x77, list.size);
+        expect((s == 0 ? compared(room, rewritten, list, list.size) : compared(rewritten, room, list, list.size)) == (uint64_t)STRIPS << 32,
+               "a plane that one room doesn't declare reads as zero");
+    }
+    for (s = 0; s < STRIPS; s++) {
+        const uint8_t place[KG_DIFFERENCE_SIZE] = { (uint8_t)s, 0, 0, 0, 1, 0, 0, 0 };
+        expect(memcmp(list.at + s * KG_DIFFERENCE_SIZE, place, sizeof place) == 0, "strip by strip, left to right");
+    }
+    rewritten.at[38] = 1;
+    give_back(list);
+}
+
+/* Rooms of 16 by 2 with 4 and 3 planes: each plane has its bit, plane 4 too, which one room doesn't declare. */
+static void compare_four_planes(void)
+{
+    struct lent pixels = lend(32, 9), masks = lend(16, 0), other = lend(16, 0), list = lend(16, 0x77), a, b;
+    const uint8_t both[16] = { 0, 0, 0, 0, 2, 0, 0, 0, 1, 0, 0, 0, 13, 0, 0, 0 };
+    masks.at[1] = 0x80;                       /* plane 1, row 0, strip 1 */
+    masks.at[4 + 2] = 1;                      /* plane 2, row 1, strip 0 */
+    masks.at[8 + 1] = other.at[8 + 1] = 0x18; /* plane 3, row 0, strip 1: in both rooms */
+    masks.at[8 + 3] = 0xFF;                   /* plane 3, row 1, strip 1: in one */
+    masks.at[12 + 3] = 0x40;                  /* plane 4, row 1, strip 1 */
+    a = room_of(pixels, masks, 16, 2, 4);
+    b = room_of(pixels, other, 16, 2, 3);
+    expect(compared(a, b, list, list.size) == (uint64_t)2 << 32 && memcmp(list.at, both, sizeof both) == 0, "the planes' bits");
+    memset(list.at, 0x77, list.size);
+    expect(compared(b, a, list, list.size) == (uint64_t)2 << 32 && memcmp(list.at, both, sizeof both) == 0, "and the other way round");
+    give_back(a);
+    give_back(b);
+    give_back(pixels);
+    give_back(masks);
+    give_back(other);
+    give_back(list);
+}
+
+/* Every refusal in its place: the first room's, the second's, 16, then 4. */
+static void compare_refusals(struct lent room, struct lent rewritten)
+{
+    struct lent list = lend(KG_MAX_DIFFERENCES, 0x77), cut = room, smaller = lend(rewritten.size, 0), wrong = lend(rewritten.size, 0);
+    cut.size--;
+    memcpy(smaller.at, rewritten.at, rewritten.size);
+    smaller.at[38] = 0;     /* no plane, whose runs a smaller height would cut */
+    put_number(smaller.at + 18, HEIGHT - 1);
+    memcpy(wrong.at, smaller.at, smaller.size);
+    wrong.at[48 + 8 + 4 * STRIPS] = 0x13;
+    expect(compared(cut, wrong, list, list.size) == KG_NOT_A_ROOM, "1 of A before 6 of B");
+    expect(compared(wrong, cut, list, list.size) == KG_CODE_UNKNOWN, "6 of A before 1 of B");
+    expect(compared(cut, room, list, 0) == KG_NOT_A_ROOM && compared(cut, cut, list, list.size) == KG_NOT_A_ROOM, "A's");
+    expect(compared(room, cut, list, list.size) == KG_NOT_A_ROOM && compared(room, wrong, list, 0) == KG_CODE_UNKNOWN, "B's before 16, 4");
+    expect(compared(room, smaller, list, 0) == KG_SIZES_DIFFER, "16 before 4");
+    expect(compared(smaller, room, list, list.size) == KG_SIZES_DIFFER, "another height");
+    expect(compared(smaller, smaller, list, 0) == 0, "the smaller room against itself");
+    put_number(smaller.at + 16, WIDTH - 8);
+    put_number(smaller.at + 18, HEIGHT);
+    expect(compared(room, smaller, list, 0) == KG_SIZES_DIFFER, "16 before 4, by the width");
+    expect(compared(smaller, room, list, list.size) == KG_SIZES_DIFFER, "another width");
+    expect(all(list.at, list.size, 0x77), "refused comparisons leave the list");
+    give_back(list);
+    give_back(smaller);
+    give_back(wrong);
+}
+
+static void comparisons(struct lent room)
+{
+    struct lent session = lend(KG_SESSION_SIZE, 0), pixels = lend(WIDTH * HEIGHT, 1), masks = lend(STRIPS * HEIGHT, 2), same, changed;
+    expect(kg_load(BUFFERS) == KG_ACCEPTED, "the load before the comparisons");
+    same = room_of(pixels, masks, WIDTH, HEIGHT, 1);
+    changed_surfaces(pixels, masks);
+    changed = room_of(pixels, masks, WIDTH, HEIGHT, 1);
+    compare_lists(room, changed);
+    compare_alike(room, same);
+    compare_planes(room, same);
+    compare_four_planes();
+    compare_refusals(room, same);
+    give_back(session);
+    give_back(pixels);
+    give_back(masks);
+    give_back(same);
+    give_back(changed);
+}
+
 /* One record for limb 0: the window of two bytes from stream index 0; the stream is payload bytes 8 and 9. */
 static void costume(void)
 {
@@ -296,6 +420,7 @@ int main(int argc, char **argv)
     steps(room);
     points(room);
     list_of_steps(room);
+    comparisons(room);
     costume();
     limb_bytes();
     limb_windows();

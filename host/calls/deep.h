@@ -140,7 +140,8 @@ static void put_nest(void)
     for (k = 4; k > 0; k--) closed(at[k - 1], "ROOM");
 }
 
-static void make_deep(uint32_t objects)
+/* The room's first strip is of kind `from`. */
+static void make_deep(uint32_t objects, uint32_t from)
 {
     uint32_t room, rmhd, rmim, rmih, k;
     deep_size = 0;
@@ -154,7 +155,7 @@ static void make_deep(uint32_t objects)
     rmih = opened("RMIH");
     put_u16(KG_MAX_PLANES);
     closed(rmih, "RMIH");
-    put_image("IM00", DEEP_WIDTH, DEEP_HEIGHT, 0);
+    put_image("IM00", DEEP_WIDTH, DEEP_HEIGHT, from);
     closed(rmim, "RMIM");
     for (k = 1; k <= IMAGES; k++) put_object_image(k);
     for (k = 1; k <= objects; k++) put_object(k, k < objects ? k + 1 : 0);

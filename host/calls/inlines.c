@@ -1,5 +1,6 @@
-/* Holds what include/kildegrom.h computes by itself against the library: sizes, bounds of the writers, readers of a session, directions. */
-#include "lent.h"
+/* Holds what include/kildegrom.h computes by itself against the library: sizes, bounds of the writers, readers of a session and of a list
+ * of differences, directions. */
+#include "room.h"
 
 enum { WIDTH = 320, HEIGHT = 144, STRIPS = WIDTH / 8, OBJECTS = 3 };
 
@@ -221,6 +222,38 @@ static void read_any_bytes(struct lent room)
     give_back(masks);
 }
 
+static int is_difference(struct kg_difference d, uint32_t strip, uint32_t pixels, uint32_t planes)
+{
+    return d.strip == strip && d.pixels == pixels && d.planes == planes;
+}
+
+/* The widest rooms with all pixels and planes different: the list has KG_MAX_DIFFERENCES bytes, and a byte fewer is too short. */
+static void differences(void)
+{
+    const uint32_t w = KG_MAX_WIDTH, h = KG_MAX_HEIGHT, n = KG_MAX_PLANES;
+    struct lent pixels = lend(KG_MAX_PIXELS, 1), masks = lend(KG_MAX_MASKS, 0xFF), list = lend(KG_MAX_DIFFERENCES, 0x77), a, b;
+    uint32_t s;
+    a = room_of(pixels, masks, w, h, n);
+    memset(pixels.at, 2, pixels.size);
+    b = room_of(pixels, masks, w, h, 0);
+    expect(kg_compare(a.at, a.size, b.at, b.size, list.at, list.size - 1) == KG_BUFFER_SHORT, "a byte of the list less");
+    expect(kg_compare(a.at, a.size, b.at, b.size, list.at, list.size) == (uint64_t)(w / 8) << 32, "a list of the largest size");
+    for (s = 0; s < w / 8; s++) expect(is_difference(kg_difference_at(list.at, s), s, 8 * h, 15), "a place of the widest rooms");
+    give_back(pixels);
+    give_back(masks);
+    give_back(list);
+    give_back(a);
+    give_back(b);
+}
+
+/* The fields stand where docs/LAYOUTS.md has them; the last three bytes of a place are none. */
+static void read_differences(void)
+{
+    static const uint8_t list[24] = { 0, 0, 0, 0, 0, 0, 0, 0, 12, 0, 31, 0, 5, 0, 0, 0, 0x34, 0x12, 0x78, 0x56, 0x9A, 0xFF, 0xFF, 0xFF };
+    expect(is_difference(kg_difference_at(list, 0), 0, 0, 0) && is_difference(kg_difference_at(list, 1), 12, 31, 5), "two places");
+    expect(is_difference(kg_difference_at(list, 2), 0x1234, 0x5678, 0x9A), "little-endian fields, and no more");
+}
+
 /* CDHD's E 0, W 1, N 2, S 3 as kg_start's directions; other bytes stay, and the start refuses them. */
 static void directions(void)
 {
@@ -245,6 +278,8 @@ int main(int argc, char **argv)
     read_steps(room);
     read_a_list(room);
     read_any_bytes(room);
+    differences();
+    read_differences();
     directions();
     return passed(room);
 }

@@ -1,5 +1,6 @@
-/* Measures how much stack each call takes in a room made to go deep (deep.h), with an empty and with a full history, and holds it against the
- * figures of include/kildegrom.h. It also asks for the most objects that a room may have, and for one more. */
+/* Measures how much stack each call takes in a room made to go deep (deep.h), with an empty and with a full history, and holds it against
+ * the figures of include/kildegrom.h. kg_compare is given two such rooms, which differ in every strip. It also asks for the most objects
+ * that a room may have, and for one more. */
 #define _POSIX_C_SOURCE 200809L
 #include "deep.h"
 #include "kildegrom.h"
@@ -9,6 +10,8 @@
 
 static uint8_t record[KG_RECORD_SIZE], header[KG_HEADER_SIZE], session[KG_SESSION_SIZE], pixels[KG_MAX_PIXELS], masks[KG_MAX_MASKS];
 static uint8_t flags[KG_MAX_OBJECTS], picture[KG_MAX_PICTURE_WIDTH * KG_MAX_PICTURE_HEIGHT], limbs[KG_LIMBS_SIZE], out[2 * KG_MAX_PIXELS];
+static uint8_t other[sizeof deep], list[DEEP_WIDTH / 8 * KG_DIFFERENCE_SIZE]; /* for kg_compare: another deep room, a list of its strips */
+static size_t other_size;
 static uint64_t answer;
 
 /* A costume of one record: all 16 limbs get the window of two bytes that starts at stream index 0. */
@@ -33,6 +36,10 @@ static void ask_tick(void) { answer = kg_tick(payload, sizeof payload, limbs, si
 static void ask_limb_draws(void) { answer = kg_limb_draws(limbs, sizeof limbs, 15); }
 static void ask_smap(void) { answer = kg_write_smap(pixels, sizeof pixels, out, sizeof out, DEEP_WIDTH, DEEP_HEIGHT); }
 static void ask_plane(void) { answer = kg_write_plane(masks, sizeof masks, out, sizeof out, DEEP_WIDTH, DEEP_HEIGHT, 4); }
+
+/* The list is exactly long enough, or a byte short. */
+static void ask_compare(void) { answer = kg_compare(other, other_size, deep, deep_size, list, sizeof list); }
+static void ask_compare_short(void) { answer = kg_compare(other, other_size, deep, deep_size, list, sizeof list - 1); }
 
 static void ask_stamp(void)
 {
@@ -72,6 +79,8 @@ static const struct question questions[] = {
     { "kg_limb_draws", ask_limb_draws, KG_STACK_COSTUME, 0, 0, 1 },
     { "kg_write_smap", ask_smap, KG_STACK_WRITE, 0, 0, 1 },
     { "kg_write_plane", ask_plane, KG_STACK_WRITE, 0, 0, 1 },
+    { "kg_compare", ask_compare, KG_STACK_COMPARE, 0, 0, 1 },
+    { "kg_compare", ask_compare_short, KG_STACK_COMPARE, 0, KG_BUFFER_SHORT, 0 },
 };
 
 static void stop(const char *call, const char *what)
@@ -114,10 +123,13 @@ static void measure(const struct question *q)
 int main(void)
 {
     size_t i;
-    make_deep(KG_MAX_OBJECTS + 1);
+    make_deep(KG_MAX_OBJECTS + 1, 0);
     ask_record();
     if (answer != KG_OUT_OF_SIZE) stop("kg_record", "a room with one object too many is taken");
-    make_deep(KG_MAX_OBJECTS);
+    make_deep(KG_MAX_OBJECTS, 4);
+    memcpy(other, deep, deep_size);
+    other_size = deep_size;
+    make_deep(KG_MAX_OBJECTS, 0);
     make_payload();
     for (i = 0; i < sizeof questions / sizeof questions[0]; i++) measure(&questions[i]);
     return 0;

@@ -6,15 +6,10 @@
  * the list and its number, `call 3: 12`, as the player writes it; the script turns it into the list's own words. --plane tints the pixels
  * that plane K hides, --boxes outlines the objects' boxes, a palette is 768 bytes (red, green, blue of the colours 0 to 255).
  * Exit status: 0; 1 the load was refused or the picture can't be written; 2 a wrong argument or file. */
-#include "kildegrom.h"
+#define PROGRAM "show"
+#include "../programs.h"
 
-#include <errno.h>
-#include <stdarg.h>
-#include <stdio.h>
-#include <stdlib.h>
-#include <string.h>
-
-enum { CALL_SIZE = 20, PALETTE_SIZE = 768 };
+enum { CALL_SIZE = 20 };
 enum kind { HIDE = 0, DRAW_LAST = 1, DRAW_AT = 2, TAKE_BACK = 3 };
 
 struct options {
@@ -30,44 +25,15 @@ struct call {
 /* The largest room and its surfaces: with these nothing is allocated. One byte more than a room may have, so that a longer file is
  * refused by the library and not cut. */
 static uint8_t room[KG_MAX_ROOM + 1], session[KG_SESSION_SIZE], pixels[KG_MAX_PIXELS], masks[KG_MAX_MASKS], picture[3 * sizeof pixels];
-static uint8_t palette[PALETTE_SIZE + 1];
 static size_t room_size, pixels_size, masks_size;
 static uint32_t width, height, planes, objects;
 
 /* The lent buffers of a session call, in their order. */
 #define LENT room, room_size, session, sizeof session, pixels, pixels_size, masks, masks_size
 
-static void stop(int status, const char *format, ...)
-{
-    va_list values;
-    va_start(values, format);
-    fprintf(stderr, "show: ");
-    vfprintf(stderr, format, values);
-    fprintf(stderr, "\n");
-    va_end(values);
-    exit(status);
-}
-
 static void usage(void)
 {
     stop(2, "usage: show [--plane K] [--boxes] [--palette FILE] ROOM [RECORDS]");
-}
-
-static FILE *opened(const char *path)
-{
-    FILE *file = fopen(path, "rb");
-    if (file == NULL) stop(2, "the file can't be opened: %s", path);
-    return file;
-}
-
-static size_t read_file(const char *path, uint8_t *bytes, size_t size)
-{
-    FILE *file = opened(path);
-    size_t n = fread(bytes, 1, size, file);
-    if (ferror(file)) stop(2, "the file can't be read: %s", path);
-    if (n == 0) stop(2, "the file is empty: %s", path);
-    fclose(file);
-    return n;
 }
 
 static uint32_t plane_number(const char *text)
@@ -93,17 +59,9 @@ static struct options options_of(int argc, char **argv)
     return o;
 }
 
-static void take_palette(const char *path)
-{
-    size_t i;
-    if (path != NULL && read_file(path, palette, sizeof palette) != PALETTE_SIZE) stop(2, "a palette has 768 bytes: %s", path);
-    for (i = 0; path == NULL && i < PALETTE_SIZE; i++) palette[i] = (uint8_t)(i / 3);
-}
-
 static void load(const char *path)
 {
     uint8_t record[KG_RECORD_SIZE];
-    const char *text;
     uint32_t number;
     room_size = read_file(path, room, sizeof room);
     number = kg_record(room, room_size, record, sizeof record);
@@ -116,8 +74,7 @@ static void load(const char *path)
         masks_size = kg_masks_size(width, height, planes);
         number = kg_load(LENT);
     }
-    text = room_size > KG_MAX_ROOM ? "longer than 1,048,576 bytes" : kg_refusal_text(number);
-    if (number != KG_ACCEPTED) stop(1, "%s: refused %lu: %s", path, (unsigned long)number, text);
+    if (number != KG_ACCEPTED) stop(1, "%s: refused %lu: %s", path, (unsigned long)number, reason(number, room_size));
 }
 
 static uint32_t u32(const uint8_t *at)
@@ -168,12 +125,11 @@ static void colour_pixels(void)
 static void tint_plane(uint32_t k)
 {
     static const uint8_t red[3] = { 255, 40, 40 };
-    uint32_t x, y, c;
+    uint32_t x, y;
     for (y = 0; y < height; y++) {
         for (x = 0; x < width; x++) {
-            uint8_t *at = picture + 3 * ((size_t)y * width + x);
             if (kg_value(kg_hidden(masks, masks_size, width, height, planes, k, x, y)) == 0) continue;
-            for (c = 0; c < 3; c++) at[c] = (uint8_t)((at[c] + red[c]) / 2);
+            mix(picture + 3 * ((size_t)y * width + x), red, 2);
         }
     }
 }
