@@ -141,7 +141,7 @@ enum {
     KG_RECORD_HEIGHT = 2,     /**< H in rows */
     KG_RECORD_PLANES = 4,     /**< N */
     KG_RECORD_OBJECTS = 6,    /**< how many objects the room has */
-    KG_RECORD_TRANSPARENT = 8 /**< a byte: the colour that is transparent, 255 */
+    KG_RECORD_TRANSPARENT = 8 /**< a byte: the transparent colour, from the room's TRNS block; 255 where it has none. For kg_stamp */
 };
 
 /** Where the fields of an object's header stand: CDHD's. Bytes, but for the id (kg_u16) and the walk point (kg_i16). */
@@ -313,7 +313,7 @@ uint32_t kg_name_number(const uint8_t *room, size_t room_size, uint32_t object);
 uint64_t kg_hidden(const uint8_t *masks, size_t masks_size, uint32_t room_w, uint32_t room_h, uint32_t planes, uint32_t clip, uint32_t x,
                    uint32_t y);
 
-/** Stamps an actor's picture on a frame: pixels other than 255 that lie in the frame and are not hidden. Refusals 3, 4.
+/** Stamps an actor's picture on a frame: its pixels other than `clear` that lie in the frame and are not hidden. Refusals 3, 4.
  * @param frame,frame_size      a copy of the room's pixels, room_w by room_h; it is written
  * @param masks,masks_size      the room's masks, as load and steps left them
  * @param picture,picture_size  picture_w * picture_h bytes by rows
@@ -321,10 +321,11 @@ uint64_t kg_hidden(const uint8_t *masks, size_t masks_size, uint32_t room_w, uin
  * @param planes                how many planes the room has
  * @param picture_w,picture_h   the picture's size in pixels
  * @param x,y                   where the picture's upper left corner goes; it may lie outside the frame
- * @param clip                  the actor's clip level, as in kg_hidden */
+ * @param clip                  the actor's clip level, as in kg_hidden
+ * @param clear                 the colour that is not painted: the room's own is byte KG_RECORD_TRANSPARENT of its record */
 uint32_t kg_stamp(uint8_t *frame, size_t frame_size, const uint8_t *masks, size_t masks_size, const uint8_t *picture, size_t picture_size,
                   uint32_t room_w, uint32_t room_h, uint32_t planes, uint32_t picture_w, uint32_t picture_h, int32_t x, int32_t y,
-                  uint32_t clip);
+                  uint32_t clip, uint8_t clear);
 
 /* ---- Costumes ---- */
 
@@ -351,9 +352,10 @@ uint64_t kg_limb_draws(const uint8_t *limbs, size_t limbs_size, uint32_t limb);
 /** Compares two rooms by what they decode to, strip by strip, left to right. For each strip whose pixels or whose rows in any plane differ a
  * place of `list` is filled (KG_DIFFERENCE_SIZE bytes; kg_difference_at reads them): the strip, how many of its pixels differ and which
  * planes. The value is how many places were filled: 0 where nothing differs. The same picture under another code is no difference; planes
- * are compared up to the larger number of planes, one that a room doesn't declare reading as zero. Objects are not compared. a and b may be
- * the same bytes. Refusals: 1 to 8 without 4 for a, then for b, then 16 where width or height differs, then 4 where the list has fewer places
- * than strips differ; KG_MAX_DIFFERENCES bytes are always enough. kg_record tells which of the two rooms is refused. */
+ * are compared up to the larger number of planes, one that a room doesn't declare reading as zero. Objects and the
+ * transparent colour are not compared. a and b may be the same bytes. Refusals: 1 to 8 without 4 for a, then for b, then 16 where width or
+ * height differs, then 4 where the list has fewer places than strips differ; KG_MAX_DIFFERENCES bytes are always enough. kg_record tells
+ * which of the two rooms is refused. */
 uint64_t kg_compare(const uint8_t *a, size_t a_size, const uint8_t *b, size_t b_size, uint8_t *list, size_t list_size);
 
 /** A place of kg_compare's list. */

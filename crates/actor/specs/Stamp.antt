@@ -1,5 +1,5 @@
--- The stamp of an actor's picture (document 01, "Actors, points, limbs"): it writes pixels other than the clear index (255), in the frame and
--- not hidden, at signed (x + column, y + row). Assumes nothing.
+-- The stamp of an actor's picture (document 01, "Actors, points, limbs"): it writes pixels other than the clear index, in the frame and not
+-- hidden, at signed (x + column, y + row). The clear index is 255 in document 01, and the caller's since change request 9. Assumes nothing.
 use mathlib.Core.Bool.{_&&_, _||_, cond}
 use mathlib.Core.List.{List}
 use Prim.Native.Nat.{ℕ, _+_, _*_, _/_, _%_, _≤_, _<_}

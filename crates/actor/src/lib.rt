@@ -17,9 +17,6 @@ pub enum Answer {
     Hidden(bool),
 }
 
-// The picture index that is never written.
-const CLEAR: u8 = 255;
-
 // Whether an actor's pixel at (x, y) is hidden at a clip level, by the masks of n planes of a room of w by h.
 pub fn hidden(masks: &[u8], w: u32, h: u32, n: u32, clip: u32, x: u32, y: u32) -> Answer
     ensures { λ r. ⌜ r ≡ hiddenOf (now (masks .entry)) w h n clip x y ⌝ }
@@ -37,7 +34,8 @@ pub fn hidden(masks: &[u8], w: u32, h: u32, n: u32, clip: u32, x: u32, y: u32) -
     Answer::Hidden(mask::hidden_at(masks, w, h, n, clip as usize, x, y))
 }
 
-// Stamps an actor's picture of width by height, its corner at (x, y), on a frame of w by h, behind the plane that the clip level names.
+// Stamps an actor's picture of width by height, its corner at (x, y), on a frame of w by h, behind the plane that the clip level names. The
+// index `clear` is never written.
 pub fn stamp(
     frame: &mut [u8],
     masks: &[u8],
@@ -50,9 +48,10 @@ pub fn stamp(
     x: i32,
     y: i32,
     clip: u32,
+    clear: u8,
 ) -> u32
     ensures { λ r. ⌜ r ≡ stampNumber (length (now (frame .entry))) (length (now (masks .entry))) (length (now (picture .entry))) w h n width height ⌝ }
-    ensures { λ _. ⌜ now (frame .exit) ≡ stampFrame (now (frame .entry)) (now (masks .entry)) (now (picture .entry)) w h n width height 255 x y clip ⌝ }
+    ensures { λ _. ⌜ now (frame .exit) ≡ stampFrame (now (frame .entry)) (now (masks .entry)) (now (picture .entry)) w h n width height clear x y clip ⌝ }
 {
     let w = w as usize;
     let h = h as usize;
@@ -64,6 +63,6 @@ pub fn stamp(
     if refusal != 0 {
         return refusal;
     }
-    picture::stamp_picture(frame, masks, picture, w, h, n, pw, ph, CLEAR, x, y, clip);
+    picture::stamp_picture(frame, masks, picture, w, h, n, pw, ph, clear, x, y, clip);
     0
 }

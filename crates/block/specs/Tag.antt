@@ -40,6 +40,9 @@ tag-IMHD = 0x494D_4844
 abbrev pub tag-OBNA : ℕ
 tag-OBNA = 0x4F42_4E41
 
+abbrev pub tag-TRNS : ℕ
+tag-TRNS = 0x5452_4E53
+
 -- the block of image state st, and of plane k
 abbrev pub tag-IM : ℕ → ℕ
 tag-IM st = tag-IM00 + st

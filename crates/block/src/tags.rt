@@ -24,3 +24,5 @@ pub const OBCD: usize = 0x4F42_4344;
 pub const CDHD: usize = 0x4344_4844;
 
 pub const OBNA: usize = 0x4F42_4E41;
+
+pub const TRNS: usize = 0x5452_4E53;

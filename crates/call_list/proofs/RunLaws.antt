@@ -1,7 +1,7 @@
 -- Laws of runs: a room's refusal is 1 to 8 and a call's number at most 13; what stands at a place of the numbers. Assumes nothing.
 use Prim.Native.Nat.{ℕ, zero, suc, _+_, _≤_, _<_}
 use mathlib.Core.Path.{_≡_, refl, sym, ap, _∙_}
-use mathlib.Core.Bool.{Bool, true, false, cond, not}
+use mathlib.Core.Bool.{Bool, true, false, cond, not, _&&_}
 use mathlib.Core.List.{List, [], _∷_}
 use mathlib.Core.Logic.{by-cases}
 use native.Mathlib.Omega.{arith}
@@ -14,7 +14,7 @@ use Rattle.table.specs.Test.{number}
 use Rattle.table.specs.declared.Test as table
 use Rattle.table.specs.declared.Test.the-variants as test
 use Rattle.block.specs.Tree.{wellFormed}
-use Rattle.room.specs.Head.{headOf, headIn, sized, sizesRight, objectsRight, neededIn, roomOf}
+use Rattle.room.specs.Head.{headOf, headIn, sized, sizesRight, objectsRight, trnsIn, holdsIndex, neededIn, roomOf}
 use Rattle.room.specs.Test.{strips, picturesTest, short, orRefused, afterHead, roomTest}
 use Rattle.room.specs.declared.Lent as room-lent
 use Rattle.room.specs.declared.Needed.{Needed}
@@ -53,7 +53,7 @@ low-sized r = on (sizesRight (r .width) (r .height) (r .planes) (r .objects))
 
 low-needed : (s : List ℕ) (n : Needed) → LowTested (headIn s n)
 low-needed s needed.Missing = omega arith
-low-needed s (needed.All p) = on (objectsRight s)
+low-needed s (needed.All p) = on (objectsRight s && holdsIndex (trnsIn s))
   where
     on : (t : Bool) → LowTested (cond t (sized (roomOf s p)) (Refused 2))
     on true = low-sized (roomOf s p)

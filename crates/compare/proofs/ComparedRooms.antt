@@ -17,7 +17,7 @@ use Rattle.block.specs.Tree.{blockEnd, walk, run, blockOk, wellFormed, tagged, 
 use Rattle.table.specs.Table.{offsetAt, offsetRight, offsetsRight, tableRight}
 use Rattle.table.specs.Body.{bodyEnd, bodyOf, stripAt, rowsAt, pixelAt, maskAt}
 use Rattle.table.specs.Test.{stripTest, leftmost, blockTest}
-use Rattle.room.specs.Head.{headedIn, backgroundIn, neededIn, objectsRight, sizesRight, roomOf, sized, headOf}
+use Rattle.room.specs.Head.{headedIn, backgroundIn, neededIn, objectsRight, trnsIn, sizesRight, roomOf, sized, headOf}
 use Rattle.room.specs.Picture.{planeTest, imTest}
 use Rattle.room.specs.Test.{picturesTest, short, afterHead, roomTest}
 use Rattle.load.specs.Load.{background, mask}
@@ -89,7 +89,7 @@ filled =
 pub compared-rooms : (answerOf (comparedOf roomA roomB (length lent)) ≡ Listed 2) × (listAfter (comparedOf roomA roomB (length lent)) lent ≡ filled)
 unfolding lowBits bitsOf decode rowsOf fiveFrom kindOf placed rawOf codedOf stripOf container blockEnd walk run blockOk wellFormed tagged payload eachHas
     offsetAt offsetRight offsetsRight tableRight bodyEnd bodyOf stripAt rowsAt pixelAt maskAt stripTest leftmost blockTest headedIn backgroundIn neededIn
-    objectsRight sizesRight roomOf sized headOf planeTest imTest picturesTest short afterHead roomTest background mask differing declared pixelsOff
+    objectsRight trnsIn sizesRight roomOf sized headOf planeTest imTest picturesTest short afterHead roomTest background mask differing declared pixelsOff
     planeOff planesOff listedTo listBytes outcomeOf comparedOf over le16Bytes
 compared-rooms = (refl, refl)
 
@@ -98,6 +98,6 @@ pub compared-refused : (comparedOf roomA roomB 15 ≡ no 4) × (comparedOf roomA
     × (comparedOf roomA emptyRoom 0 ≡ no 2) × (comparedOf [] emptyRoom 0 ≡ no 1)
 unfolding lowBits bitsOf decode rowsOf fiveFrom kindOf placed rawOf codedOf stripOf container blockEnd walk run blockOk wellFormed tagged payload eachHas
     offsetAt offsetRight offsetsRight tableRight bodyEnd bodyOf stripAt rowsAt pixelAt maskAt stripTest leftmost blockTest headedIn backgroundIn neededIn
-    objectsRight sizesRight roomOf sized headOf planeTest imTest picturesTest short afterHead roomTest background mask differing declared pixelsOff
+    objectsRight trnsIn sizesRight roomOf sized headOf planeTest imTest picturesTest short afterHead roomTest background mask differing declared pixelsOff
     planeOff planesOff listedTo listBytes outcomeOf comparedOf over le16Bytes
 compared-refused = (refl, refl, refl, refl, refl)

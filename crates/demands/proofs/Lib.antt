@@ -35,3 +35,4 @@ pub mod HeaderReads
 pub mod Demand2
 pub mod Demand3
 pub mod Request1
+pub mod Request9

@@ -13,7 +13,7 @@ use Rattle.block.specs.Tree.{blockEnd, walk, run, blockOk, wellFormed, tagged, 
 use Rattle.table.specs.Table.{offsetAt, offsetRight, offsetsRight, tableRight}
 use Rattle.table.specs.Body.{bodyEnd, bodyOf, stripAt, pixelAt}
 use Rattle.table.specs.Test.{stripTest, leftmost, blockTest}
-use Rattle.room.specs.Head.{headedIn, backgroundIn, neededIn, objectsRight, sizesRight, roomOf, sized, headOf}
+use Rattle.room.specs.Head.{headedIn, backgroundIn, neededIn, objectsRight, trnsIn, sizesRight, roomOf, sized, headOf}
 use Rattle.room.specs.Picture.{imTest}
 use Rattle.room.specs.Test.{picturesTest, short, afterHead, roomTest, numberOf}
 use Rattle.load.specs.Load.{background, loadedPixels, loadTest, pixelsAfter}
@@ -44,6 +44,6 @@ shown =
 
 pub loaded-room : (numberOf (loadTest room session lent []) ≡ 0) × (pixelsAfter room (loadTest room session lent []) lent ≡ shown ++ (0xEE ∷ []))
 unfolding lowBits bitsOf upd within boxed decode fiveFrom kindOf placed rawOf codedOf stripOf container blockEnd walk run blockOk wellFormed tagged payload
-    eachHas offsetAt offsetRight offsetsRight tableRight bodyEnd bodyOf stripAt pixelAt stripTest leftmost blockTest headedIn backgroundIn neededIn objectsRight
-    sizesRight roomOf sized headOf imTest picturesTest short afterHead roomTest background loadedPixels
+    eachHas offsetAt offsetRight offsetsRight tableRight bodyEnd bodyOf stripAt pixelAt stripTest leftmost blockTest headedIn backgroundIn neededIn
+    objectsRight trnsIn sizesRight roomOf sized headOf imTest picturesTest short afterHead roomTest background loadedPixels
 loaded-room = (refl, refl)

@@ -15,7 +15,7 @@ use Rattle.block.specs.Tree.{blockEnd, walk, run, blockOk, wellFormed, tagged, 
 use Rattle.table.specs.Table.{offsetAt, offsetRight, offsetsRight, tableRight}
 use Rattle.table.specs.Body.{bodyEnd, bodyOf, stripAt, rowsAt, pixelAt, maskAt}
 use Rattle.table.specs.Test.{stripTest, leftmost, blockTest}
-use Rattle.room.specs.Head.{headedIn, backgroundIn, neededIn, objectsRight, sizesRight, roomOf, sized, headOf}
+use Rattle.room.specs.Head.{headedIn, backgroundIn, neededIn, objectsRight, trnsIn, sizesRight, roomOf, sized, headOf}
 use Rattle.room.specs.Picture.{planeTest, imTest}
 use Rattle.room.specs.Test.{picturesTest, short, afterHead, roomTest}
 use Rattle.room.specs.declared.Room.{Room}
@@ -118,6 +118,7 @@ loaded = lent (sessionWith 0 0 [] []) (pixelsWith (replicate 8 0x05) (replicate 
 -- the load is accepted with these sizes, and leaves these bytes
 pub load-is : (testOf room given ≡ Right sizes) × (afterLoad room given ≡ loaded)
 unfolding lowBits bitsOf decode fiveFrom kindOf placed codedOf stripOf rowsOf container blockEnd walk run blockOk wellFormed tagged payload eachHas offsetAt
-    offsetRight offsetsRight tableRight bodyEnd bodyOf stripAt rowsAt stripTest leftmost blockTest headedIn backgroundIn neededIn objectsRight sizesRight roomOf
-    sized headOf planeTest imTest picturesTest short afterHead roomTest upd within boxed pixelAt maskAt background mask loadedPixels loadedMasks emptied over
+    offsetRight offsetsRight tableRight bodyEnd bodyOf stripAt rowsAt stripTest leftmost blockTest headedIn backgroundIn neededIn objectsRight trnsIn
+    sizesRight roomOf sized headOf planeTest imTest picturesTest short afterHead roomTest upd within boxed pixelAt maskAt background mask loadedPixels
+    loadedMasks emptied over
 load-is = (refl, refl)

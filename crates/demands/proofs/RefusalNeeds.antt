@@ -6,16 +6,16 @@ use mathlib.Core.Logic.{_⊎_, inl, inr, _↔_}
 use Prim.Native.Nat.{ℕ, suc, _+_}
 use native.Mathlib.Omega.{arith}
 use lib.ListN.{length, getD}
-use Rattle.block.specs.Tag.{tag-RMHD, tag-RMIM, tag-RMIH, tag-IM00, tag-SMAP, tag-OBCD, tag-CDHD, tag-OBIM, tag-IMHD}
+use Rattle.block.specs.Tag.{tag-RMHD, tag-RMIM, tag-RMIH, tag-IM00, tag-SMAP, tag-OBCD, tag-CDHD, tag-OBIM, tag-IMHD, tag-TRNS}
 use Rattle.block.specs.Tree.{tagged, nthTag, findTag, needTag, isAt, hasIn, allOf, eachHas}
 use Rattle.block.specs.declared.Found.{Found}
 use Rattle.block.specs.declared.Found.the-variants.{At, Missing}
-use Rattle.room.specs.Head.{orMissing, bothFound, headedIn, withHeader, backgroundIn, neededIn, objectsRight}
+use Rattle.room.specs.Head.{orMissing, bothFound, headedIn, withHeader, backgroundIn, neededIn, objectsRight, trnsIn, holdsIndex}
 use Rattle.room.specs.declared.Needed.{Needed}
 use Rattle.room.specs.declared.Needed.the-variants as needed
 use Rattle.room.specs.declared.Parts.{Parts}
-use Rattle.demands.specs.RoomRefusals.{BackgroundMissing, NeededMissing, Lacks, ObjectLacks}
-use Rattle.demands.proofs.RefusalTests.{or-fails, one-fails}
+use Rattle.demands.specs.RoomRefusals.{BackgroundMissing, NeededMissing, Lacks, ObjectLacks, IndexLacks}
+use Rattle.demands.proofs.RefusalTests.{or-fails, one-fails, not-below}
 use Rattle.demands.proofs.RefusalObjects.{all-of-each}
 
 not-all : (p : Parts) → needed.All p ≡ needed.Missing → ⊥
@@ -149,6 +149,14 @@ module _ (s : List ℕ) where
       λ e. let (k, b, z, at, none) = lacks-there (tagged t s 8 (length s)) e in (k, (b, z, at, none)),
       λ (k, (b, z, at, none)). lacks-back k b z at none (eachHas t c n s 8 (length s)) refl,
     )
+
+  pub index-lacks : (holdsIndex (trnsIn s) ≡ false) ↔ IndexLacks s
+  unfolding trnsIn
+  index-lacks = (λ e. go (findTag tag-TRNS s 8 (length s)) refl e, λ (b, z, at, le). rw at (not-below (b + 8) z .1 le))
+    where
+      go : (f : Found) → findTag tag-TRNS s 8 (length s) ≡ f → holdsIndex f ≡ false → IndexLacks s
+      go (At b z) at e = (b, z, at, not-below (b + 8) z .0 e)
+      go Missing at e = absurd (true≢false e)
 
   pub object-lacks : (objectsRight s ≡ false) ↔ ObjectLacks s
   unfolding objectsRight

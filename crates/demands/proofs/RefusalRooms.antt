@@ -1,6 +1,6 @@
 -- Which rooms are refused with 1 to 8, and which pass: the whole test of a room, taken apart in its order.
 use mathlib.Core.Path.{_≡_, refl, ap, _∙_, subst}
-use mathlib.Core.Bool.{Bool, true, false, cond, _||_}
+use mathlib.Core.Bool.{Bool, true, false, cond, _&&_, _||_}
 use mathlib.Core.List.{List}
 use mathlib.Core.Logic.{_⊎_, inl, inr, _↔_}
 use Prim.Native.Nat.{ℕ, _*_, _≤_, _<_}
@@ -9,7 +9,7 @@ use lib.Dec.{ltb}
 use Rattle.block.specs.Tree.{wellFormed}
 use Rattle.table.specs.declared.Test.{Test}
 use Rattle.table.specs.declared.Test.the-variants as test
-use Rattle.room.specs.Head.{neededIn, objectsRight, roomOf, sized, headIn, headOf}
+use Rattle.room.specs.Head.{neededIn, objectsRight, trnsIn, holdsIndex, roomOf, sized, headIn, headOf}
 use Rattle.room.specs.Test.{strips, picturesTest, short, orRefused, afterHead, roomTest, numberOf, fixedOnly, withSurfaces, withFlags}
 use Rattle.room.specs.declared.Lent.{Lent}
 use Rattle.room.specs.declared.Parts.{Parts}
@@ -20,7 +20,7 @@ use Rattle.room.specs.declared.Tested.{Tested}
 use Rattle.room.specs.declared.Tested.the-variants.{Right, Refused}
 use Rattle.demands.specs.PictureRefusals.{AllPass, pictureOf, TableWrong, AtStrip, UnknownCode, BytesRunOut, PassesEnd}
 use Rattle.demands.specs.Refusals.{Blocks, inSizes, Sized, AtRoom}
-use Rattle.demands.proofs.RefusalTests.{below, one-holds, either-way, _then_}
+use Rattle.demands.proofs.RefusalTests.{below, one-holds, both-hold, one-fails, either-way, _then_}
 use Rattle.demands.proofs.RefusalPictures as picture
 
 module _ (s : List ℕ) where
@@ -33,16 +33,22 @@ module _ (s : List ℕ) where
   unfolding headOf
   formed e = ap (λ (q : Bool). cond q (headIn s (neededIn s)) (Refused 1)) e
 
-  lacking : wellFormed s ≡ true → (neededIn s ≡ Missing) ⊎ (objectsRight s ≡ false) → headOf s ≡ Refused 2
+  -- what is asked beside the needed blocks
+  abbrev rest : Bool
+  rest = objectsRight s && holdsIndex (trnsIn s)
+
+  lacking : wellFormed s ≡ true → (neededIn s ≡ Missing) ⊎ (objectsRight s ≡ false) ⊎ (holdsIndex (trnsIn s) ≡ false) → headOf s ≡ Refused 2
   lacking e (inl none) = formed e ∙ ap (headIn s) none
   lacking e (inr wrong) = formed e ∙ go (neededIn s)
     where
       go : (f : Needed) → headIn s f ≡ Refused 2
-      go (All p) = ap (λ (q : Bool). cond q (sized (roomOf s p)) (Refused 2)) wrong
+      go (All p) = ap (λ (q : Bool). cond q (sized (roomOf s p)) (Refused 2)) (one-fails (objectsRight s) (holdsIndex (trnsIn s)) .1 wrong)
       go Missing = refl
 
   blocks-are : (p : Parts) → Blocks s p → headOf s ≡ sized (roomOf s p)
-  blocks-are p (e, needed, objects) = formed e ∙ ap (headIn s) needed ∙ ap (λ (q : Bool). cond q (sized (roomOf s p)) (Refused 2)) objects
+  blocks-are p (e, needed, objects, index) =
+      formed e ∙ ap (headIn s) needed
+      ∙ ap (λ (q : Bool). cond q (sized (roomOf s p)) (Refused 2)) (both-hold (objectsRight s) (holdsIndex (trnsIn s)) .1 (objects, index))
 
   unsized : (p : Parts) → Blocks s p → inSizes (roomOf s p) ≡ false → headOf s ≡ Refused 3
   unfolding sized
@@ -58,20 +64,22 @@ module _ (s : List ℕ) where
   HeadIs (Right r) = Sized s r
   HeadIs (Refused n) =
       ((n ≡ 1) × (wellFormed s ≡ false))
-      ⊎ ((n ≡ 2) × (wellFormed s ≡ true) × ((neededIn s ≡ Missing) ⊎ (objectsRight s ≡ false)))
+      ⊎ ((n ≡ 2) × (wellFormed s ≡ true) × ((neededIn s ≡ Missing) ⊎ (objectsRight s ≡ false) ⊎ (holdsIndex (trnsIn s) ≡ false)))
       ⊎ ((n ≡ 3) × ((p : Parts) × Blocks s p × (inSizes (roomOf s p) ≡ false)))
 
   sized-is : (p : Parts) → Blocks s p → (q : Bool) → inSizes (roomOf s p) ≡ q → HeadIs (cond q (Right (roomOf s p)) (Refused 3))
   sized-is p blocks true e = (p, blocks, refl, e)
   sized-is p blocks false e = inr (inr (refl, (p, blocks, e)))
 
-  objects-is : (p : Parts) → wellFormed s ≡ true → neededIn s ≡ All p → (q : Bool) → objectsRight s ≡ q → HeadIs (cond q (sized (roomOf s p)) (Refused 2))
+  objects-is : (p : Parts) → wellFormed s ≡ true → neededIn s ≡ All p → (q : Bool) → rest ≡ q → HeadIs (cond q (sized (roomOf s p)) (Refused 2))
   unfolding sized
-  objects-is p formed needed true e = sized-is p (formed, needed, e) (inSizes (roomOf s p)) refl
-  objects-is p formed needed false e = inr (inl (refl, formed, inr e))
+  objects-is p formed needed true e =
+      let both = both-hold (objectsRight s) (holdsIndex (trnsIn s)) .0 e in
+      sized-is p (formed, needed, both .0, both .1) (inSizes (roomOf s p)) refl
+  objects-is p formed needed false e = inr (inl (refl, formed, inr (one-fails (objectsRight s) (holdsIndex (trnsIn s)) .0 e)))
 
   needed-is : wellFormed s ≡ true → (f : Needed) → neededIn s ≡ f → HeadIs (headIn s f)
-  needed-is formed (All p) e = objects-is p formed e (objectsRight s) refl
+  needed-is formed (All p) e = objects-is p formed e rest refl
   needed-is formed Missing e = inr (inl (refl, formed, inl e))
 
   formed-is : (q : Bool) → wellFormed s ≡ q → HeadIs (cond q (headIn s (neededIn s)) (Refused 1))
@@ -181,10 +189,10 @@ module _ (lent : Lent) (s : List ℕ) where
       go (inr (inl (e, w))) = absurd (omega arith)
       go (inr (inr (r, head, enough, w))) = absurd (omega (arith, picture.wrong-number s (pictureOf r) 1 w .0))
 
-  pub two : (numberOf (roomTest lent s) ≡ 2) ↔ ((wellFormed s ≡ true) × ((neededIn s ≡ Missing) ⊎ (objectsRight s ≡ false)))
+  pub two : (numberOf (roomTest lent s) ≡ 2) ↔ ((wellFormed s ≡ true) × ((neededIn s ≡ Missing) ⊎ (objectsRight s ≡ false) ⊎ (holdsIndex (trnsIn s) ≡ false)))
   two = (λ e. go (why 2 (omega arith) e), λ (w, v). ap numberOf (head-refused 2 (lacking s w v)))
     where
-      go : Verdict (Refused 2) → (wellFormed s ≡ true) × ((neededIn s ≡ Missing) ⊎ (objectsRight s ≡ false))
+      go : Verdict (Refused 2) → (wellFormed s ≡ true) × ((neededIn s ≡ Missing) ⊎ (objectsRight s ≡ false) ⊎ (holdsIndex (trnsIn s) ≡ false))
       go (inl (inl (e, w))) = absurd (omega arith)
       go (inl (inr (inl (e, w, v)))) = (w, v)
       go (inl (inr (inr (e, w)))) = absurd (omega arith)

@@ -30,6 +30,7 @@ refusals =
       two = room.two;
       needed-missing = needs.needed-missing;
       object-lacks = needs.object-lacks;
+      index-lacks = needs.index-lacks;
       two-draw = session.draw-two;
       three = room.three;
       out-of-sizes = sizes.out-of-sizes;

@@ -6,16 +6,16 @@ use Prim.Native.Nat.{ℕ, zero, suc, _+_, _-_, _≤_, _<_, zero-le}
 use native.Mathlib.Omega.{arith}
 use borrow.Author.Tests.{le-leb, eq-eqb}
 use lib.Dec.{lit<}
-use lib.ListN.{length, length-append}
+use lib.ListN.{length, getD, length-append}
 use Rattle.number.specs.Number.{be32, be32Bytes}
 use Rattle.number.proofs.BoolLaws.{and-true}
-use Rattle.block.specs.Tag.{container, tag-ROOM, tag-RMHD, tag-RMIM, tag-RMIH, tag-IM00, tag-SMAP, tag-OBCD, tag-CDHD, tag-OBIM, tag-IMHD}
+use Rattle.block.specs.Tag.{container, tag-ROOM, tag-RMHD, tag-RMIM, tag-RMIH, tag-IM00, tag-SMAP, tag-OBCD, tag-CDHD, tag-OBIM, tag-IMHD, tag-TRNS}
 use Rattle.block.specs.Tree.{blockEnd, blockOk, listOk, wellFormed, tagged, findTag, eachHas, allOf, hasIn}
 use Rattle.block.specs.declared.Found.{Found}
-use Rattle.block.specs.declared.Found.the-variants.{At}
+use Rattle.block.specs.declared.Found.the-variants.{At, Missing}
 use Rattle.block.proofs.Laws.{payload-long}
 use Rattle.block.proofs.ListLaws.{Stands, stands-end, leaf-right, container-right, list-right, none-tagged, find-first}
-use Rattle.room.specs.Head.{orMissing, bothFound, headedIn, withHeader, backgroundIn, neededIn, objectsRight}
+use Rattle.room.specs.Head.{orMissing, bothFound, headedIn, withHeader, backgroundIn, neededIn, objectsRight, trnsIn}
 use Rattle.room.specs.declared.Headed.{Headed}
 use Rattle.room.specs.declared.Headed.the-variants.{Both}
 use Rattle.room.specs.declared.Parts.{Parts}
@@ -215,6 +215,12 @@ module _ (header count body : List ℕ) (six : length header ≡ 6) (two : lengt
   no-images : tagged tag-OBIM room 8 (length room) ≡ []
   no-images =
       find-none tag-RMHD tag-RMIM room 8 22 (length room) header-stands image-stands tag-OBIM (λ e. omega (arith, e)) (λ e. omega (arith, e))
+
+  pub trns-none : trnsIn room ≡ Missing
+  unfolding trnsIn
+  trns-none =
+      ap (λ (l : List Found). getD l 0 Missing)
+      (find-none tag-RMHD tag-RMIM room 8 22 (length room) header-stands image-stands tag-TRNS (λ e. omega (arith, e)) (λ e. omega (arith, e)))
 
   pub objects-none : length (tagged tag-OBCD room 8 (length room)) ≡ 0
   objects-none = ap length no-objects

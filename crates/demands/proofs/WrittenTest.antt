@@ -10,7 +10,7 @@ use lib.ListN.{length, length-append}
 use Rattle.number.specs.Number.{le16, le16Bytes}
 use Rattle.block.specs.Tag.{tag-OBCD, tag-SMAP, tag-ZP}
 use Rattle.block.specs.Tree.{listOk, wellFormed, tagged, findTag}
-use Rattle.block.specs.declared.Found.the-variants.{At}
+use Rattle.block.specs.declared.Found.the-variants.{At, Missing}
 use Rattle.block.proofs.ListLaws.{Stands}
 use Rattle.table.specs.Test.{andThen}
 use Rattle.table.specs.declared.Test.the-variants.{Passed}
@@ -18,7 +18,7 @@ use Rattle.block_writer.specs.Block.{smapTag, planeTag, bodyFor}
 use Rattle.block_writer.specs.Reads.{SmapReads, PlaneReads}
 use Rattle.block_writer.proofs.CallLaws.{Sizes}
 use Rattle.block_writer.proofs.PlacedLaws.{leftmost-all}
-use Rattle.room.specs.Head.{neededIn, objectsRight, sizesRight, roomOf, sized, headIn, headOf}
+use Rattle.room.specs.Head.{neededIn, objectsRight, trnsIn, holdsIndex, indexIn, sizesRight, roomOf, sized, headIn, headOf}
 use Rattle.room.specs.Picture.{planeFound, planeTest, imTest}
 use Rattle.room.specs.Test.{picturesTest}
 use Rattle.room.specs.declared.Needed.the-variants as needed
@@ -27,6 +27,7 @@ use Rattle.room.specs.declared.Room.{Room}
 use Rattle.room.specs.declared.Tested.the-variants.{Right, Refused}
 use Rattle.demands.specs.Written.{oneTo, roomAround}
 use Rattle.demands.proofs.WrittenBlocks.{Held, held-left, held-right, held-reads, held-le16, one-held, written-stands}
+use Rattle.demands.proofs.RefusalTests.{both-hold}
 use Rattle.demands.proofs.WrittenHead as head
 use Rattle.demands.proofs.WrittenPicture as picture
 use Rattle.demands.proofs.WrittenRows.{length-most}
@@ -162,6 +163,10 @@ module _ (w h n : ℕ) (rows : List ℕ) (planes : ℕ → List ℕ) (smap : Lis
   unfolding roomAround
   objects-right = head.objects-right header (le16Bytes n) body six (length-le16 n) body-few
 
+  trns-none : trnsIn s ≡ Missing
+  unfolding roomAround
+  trns-none = head.trns-none header (le16Bytes n) body six (length-le16 n) body-few
+
   objects-none : length (tagged tag-OBCD s 8 (length s)) ≡ 0
   unfolding roomAround
   objects-none = head.objects-none header (le16Bytes n) body six (length-le16 n) body-few
@@ -199,7 +204,7 @@ module _ (w h n : ℕ) (rows : List ℕ) (planes : ℕ → List ℕ) (smap : Lis
         «image_end» = length s;
         smap = 48;
         «smap_end» = 48 + length smap;
-        clear = 255;
+        clear = indexIn s (trns-none i);
       }
 
   pub head-is : headOf s ≡ Right r
@@ -207,7 +212,8 @@ module _ (w h n : ℕ) (rows : List ℕ) (planes : ℕ → List ℕ) (smap : Lis
   head-is =
       ap (λ (q : Bool). cond q (headIn s (neededIn s)) (Refused 1)) formed
       ∙ ap (headIn s) needed-found
-      ∙ ap (λ (q : Bool). cond q (sized (roomOf s parts)) (Refused 2)) objects-right
+      ∙ ap (λ (q : Bool). cond q (sized (roomOf s parts)) (Refused 2))
+      (both-hold (objectsRight s) (holdsIndex (trnsIn s)) .1 (objects-right, ap holdsIndex trns-none))
       ∙ ap sized room-is
       ∙ ap (λ (q : Bool). cond q (Right r) (Refused 3)) (sizes-right w h n (by .allowed) few)
 

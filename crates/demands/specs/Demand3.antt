@@ -8,6 +8,9 @@
 -- Said of the bytes: `testOf`, `afterLoad`, `numberOf` and `afterCall` (crate play) are what the contracts of kg_load, kg_draw_last,
 -- kg_draw_at, kg_hide and kg_take_back promise; `bytesAfter` is a load and then each call on what the last one left. The step list (scene
 -- `listAnswer`, `stepList`) is fed the room and the calls alone. Lists stand newest first.
+--
+-- Change request 9: "demand 3 is over the painting with that index". `decoded` is the room with its own transparent index, the TRNS block's or 255: page
+-- Request9, `paints`, says which pixels of an entry it lets through and which mask rows are joined.
 use Prim.Native.Nat.{ℕ}
 use mathlib.Core.Path.{_≡_}
 use mathlib.Core.List.{List, [], _∷_}

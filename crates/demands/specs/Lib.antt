@@ -5,6 +5,7 @@ pub mod Demand3
 pub mod Request1
 pub mod Request2
 pub mod Request5
+pub mod Request9
 pub mod PictureRefusals
 pub mod RoomRefusals
 pub mod CostumeRefusals

@@ -16,7 +16,7 @@ use Rattle.table.specs.Table as table
 use Rattle.table.specs.Body.{bodyOf}
 use Rattle.table.specs.Test.{stripTest, blockTest}
 use Rattle.table.specs.declared.Test.the-variants.{Refused}
-use Rattle.room.specs.Head.{neededIn, objectsRight, sizesRight, roomOf}
+use Rattle.room.specs.Head.{neededIn, objectsRight, trnsIn, holdsIndex, sizesRight, roomOf}
 use Rattle.room.specs.Test.{strips, short, roomTest, numberOf, nothing, fixedOnly, withSurfaces, withFlags}
 use Rattle.room.specs.declared.Lent.{Lent}
 use Rattle.room.specs.declared.Parts.{Parts}
@@ -55,7 +55,7 @@ use Rattle.block_writer.specs.Call.{sizesAllowed, smapOutcome, planeOutcome, an
 use Rattle.block_writer.specs.Call as writer
 use Rattle.stored.specs.Layout.{sessionSize}
 use Rattle.compare.specs.Compare as compare
-use Rattle.demands.specs.RoomRefusals.{NotOneRoom, NeededMissing, ObjectLacks, OutOfSizes, OutOfRange, OutOfPicture, TableBad, OtherSession}
+use Rattle.demands.specs.RoomRefusals.{NotOneRoom, NeededMissing, ObjectLacks, IndexLacks, OutOfSizes, OutOfRange, OutOfPicture, TableBad, OtherSession}
 use Rattle.demands.specs.RoomRefusals.{NotDrawable, NotAllowed}
 use Rattle.demands.specs.CostumeRefusals.{NumbersWrong, CommandWrong, RecordWrong, SomePlaceWrong, SomeLimbWrong}
 use Rattle.demands.specs.PictureRefusals.{Picture, UnknownCode, BytesRunOut, PassesEnd, StripFault, BlockFault, TableWrong, AtStrip}
@@ -66,7 +66,7 @@ use Rattle.demands.specs.PictureRefusals.{AllPass, pictureOf}
 
 -- the bytes are blocks (1), and the needed ones are there (2): p says where
 abbrev pub Blocks : List ℕ → Parts → Type 0
-Blocks s p = (wellFormed s ≡ true) × (neededIn s ≡ All p) × (objectsRight s ≡ true)
+Blocks s p = (wellFormed s ≡ true) × (neededIn s ≡ All p) × (objectsRight s ≡ true) × (holdsIndex (trnsIn s) ≡ true)
 
 -- what they say of W, H, N and the objects is inside the sizes
 abbrev pub inSizes : Room → Bool
@@ -161,9 +161,12 @@ pub record Refusals : Type 0 where
   pub not-one-room : (s : List ℕ) → (wellFormed s ≡ false) ↔ NotOneRoom s
   -- 2: "a needed block is missing or shorter than its fixed fields"
   pub two : (lent : Lent) (s : List ℕ)
-      → (numberOf (roomTest lent s) ≡ 2) ↔ ((wellFormed s ≡ true) × ((neededIn s ≡ Missing) ⊎ (objectsRight s ≡ false)))
+      → (numberOf (roomTest lent s) ≡ 2)
+      ↔ ((wellFormed s ≡ true) × ((neededIn s ≡ Missing) ⊎ (objectsRight s ≡ false) ⊎ (holdsIndex (trnsIn s) ≡ false)))
   pub needed-missing : (s : List ℕ) → (neededIn s ≡ Missing) ↔ NeededMissing s
   pub object-lacks : (s : List ℕ) → (objectsRight s ≡ false) ↔ ObjectLacks s
+  -- change request 9: "2 for an empty TRNS payload"
+  pub index-lacks : (s : List ℕ) → (holdsIndex (trnsIn s) ≡ false) ↔ IndexLacks s
   pub two-draw : (s : List ℕ) (l : play.Lent) (o st : ℕ) (p : Place)
       → (drawNumber s l o st p ≡ 2)
       ↔ ((numberOf (play.callTest s l) ≡ 2) ⊎ AtImage s l o st p (λ r b z. findTag tag-SMAP s (b + 8) z ≡ found.Missing))

@@ -7,7 +7,7 @@ use mathlib.Core.List.{List, _∷_, _++_}
 use mathlib.Core.Logic.{_⊎_}
 use lib.ListN.{length}
 use Rattle.number.specs.Number.{be32}
-use Rattle.block.specs.Tag.{container, tag-ROOM, tag-RMHD, tag-RMIM, tag-RMIH, tag-IM00, tag-SMAP, tag-OBCD, tag-CDHD, tag-OBIM, tag-IMHD}
+use Rattle.block.specs.Tag.{container, tag-ROOM, tag-RMHD, tag-RMIM, tag-RMIH, tag-IM00, tag-SMAP, tag-OBCD, tag-CDHD, tag-OBIM, tag-IMHD, tag-TRNS}
 use Rattle.block.specs.Tree.{blockEnd, findTag, nthTag, needTag}
 use Rattle.block.specs.declared.Found.the-variants.{At, Missing}
 use Rattle.table.specs.Table.{tableEnd, offsetAt, bodiless}
@@ -66,6 +66,10 @@ Lacks t c n s k = (b : ℕ) × (z : ℕ) × (nthTag t s 8 (length s) k ≡ At b 
 -- "Each OBCD needs CDHD (13 bytes) and each OBIM needs IMHD (first 16 bytes)"
 abbrev pub ObjectLacks : List ℕ → Type 0
 ObjectLacks s = ((k : ℕ) × Lacks tag-OBCD tag-CDHD 13 s k) ⊎ ((k : ℕ) × Lacks tag-OBIM tag-IMHD 16 s k)
+
+-- change request 9: the first TRNS directly in ROOM has an empty payload
+abbrev pub IndexLacks : List ℕ → Type 0
+IndexLacks s = (b : ℕ) × (z : ℕ) × (findTag tag-TRNS s 8 (length s) ≡ At b z) × (z ≤ b + 8)
 
 -- ---- 3: "Width W a multiple of 8, 8 to 1,024 … Height H 1 to 200. Planes N 0 to 4. Objects (OBCD blocks) 0 to 128"
 abbrev pub OutOfSizes : Room → Type 0

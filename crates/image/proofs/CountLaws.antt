@@ -1,13 +1,13 @@
 -- A room that passes its test has as many objects as OBCD blocks directly under ROOM: what the table of objects asks of it.
 use mathlib.Core.Path.{_≡_, refl, subst⁻¹}
 use mathlib.Core.List.{List}
-use mathlib.Core.Bool.{Bool, true, false, cond}
+use mathlib.Core.Bool.{Bool, true, false, cond, _&&_}
 use Prim.Native.Nat.{ℕ, _≤_}
 use lib.ListN.{length}
 use Rattle.block.specs.Tree.{wellFormed}
 use Rattle.table.specs.declared.Test.{Test}
 use Rattle.table.specs.declared.Test.the-variants as test
-use Rattle.room.specs.Head.{neededIn, objectsRight, sizesRight, roomOf, sized, headIn, headOf}
+use Rattle.room.specs.Head.{neededIn, objectsRight, trnsIn, holdsIndex, sizesRight, roomOf, sized, headIn, headOf}
 use Rattle.room.specs.Test.{picturesTest, short, orRefused, afterHead, roomTest}
 use Rattle.room.specs.declared.Needed.{Needed}
 use Rattle.room.specs.declared.Needed.the-variants as needed
@@ -25,7 +25,7 @@ module _ (s : List ℕ) where
 
   count-needed : (f : Needed) → Counted (headIn s f)
   unfolding sized roomOf
-  count-needed (needed.All p) = go (objectsRight s)
+  count-needed (needed.All p) = go (objectsRight s && holdsIndex (trnsIn s))
     where
       size : (q : Bool) → Counted (cond q (Right (roomOf s p)) (Refused 3))
       size true = refl

@@ -17,7 +17,7 @@ pub extern "C" fn kg_hidden(masks: &[u8], w: u32, h: u32, n: u32, clip: u32, x: 
     }
 }
 
-// Stamps an actor's picture, its corner at (x, y), behind the plane that the clip level names.
+// Stamps an actor's picture, its corner at (x, y), behind the plane that the clip level names; the index `clear` is never written.
 #[no_mangle]
 pub extern "C" fn kg_stamp(
     frame: &mut [u8],
@@ -31,9 +31,23 @@ pub extern "C" fn kg_stamp(
     x: i32,
     y: i32,
     clip: u32,
+    clear: u8,
 ) -> u32
     ensures { λ r. ⌜ r ≡ stampNumber (length (now (frame .entry))) (length (now (masks .entry))) (length (now (picture .entry))) w h n width height ⌝ }
-    ensures { λ _. ⌜ now (frame .exit) ≡ stampFrame (now (frame .entry)) (now (masks .entry)) (now (picture .entry)) w h n width height 255 x y clip ⌝ }
+    ensures { λ _. ⌜ now (frame .exit) ≡ stampFrame (now (frame .entry)) (now (masks .entry)) (now (picture .entry)) w h n width height clear x y clip ⌝ }
 {
-    actor::stamp(frame, masks, picture, w, h, n, width, height, x, y, clip)
+    actor::stamp(
+        frame,
+        masks,
+        picture,
+        w,
+        h,
+        n,
+        width,
+        height,
+        x,
+        y,
+        clip,
+        clear,
+    )
 }

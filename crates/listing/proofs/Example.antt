@@ -11,7 +11,7 @@ use Rattle.block.specs.Tree.{blockEnd, walk, run, blockOk, wellFormed, tagged, 
 use Rattle.table.specs.Table.{offsetAt, offsetRight, offsetsRight, tableRight}
 use Rattle.table.specs.Body.{bodyEnd, bodyOf, stripAt}
 use Rattle.table.specs.Test.{stripTest, leftmost, blockTest}
-use Rattle.room.specs.Head.{headedIn, backgroundIn, neededIn, objectsRight, sizesRight, roomOf, sized, headOf}
+use Rattle.room.specs.Head.{headedIn, backgroundIn, neededIn, objectsRight, trnsIn, sizesRight, roomOf, sized, headOf}
 use Rattle.room.specs.Picture.{planeTest, imTest}
 use Rattle.room.specs.Test.{picturesTest, short, afterHead, roomTest}
 use Rattle.objects.specs.Object.{cdhdAt, objectBlock}
@@ -47,9 +47,9 @@ line-2 =
 
 pub listed-room : listingOf room ≡ line-1 ++ line-2
 unfolding lowBits bitsOf decode fiveFrom kindOf placed rawOf codedOf stripOf container blockEnd walk run blockOk wellFormed tagged payload eachHas offsetAt
-    offsetRight offsetsRight tableRight bodyEnd bodyOf stripAt stripTest leftmost blockTest headedIn backgroundIn neededIn objectsRight sizesRight roomOf sized
-    headOf planeTest imTest picturesTest short afterHead roomTest cdhdAt objectBlock digits decimal field signedField roomLine boxPart walkPart objectLine
-    objectLines refusedLine listingOf
+    offsetRight offsetsRight tableRight bodyEnd bodyOf stripAt stripTest leftmost blockTest headedIn backgroundIn neededIn objectsRight trnsIn sizesRight
+    roomOf sized headOf planeTest imTest picturesTest short afterHead roomTest cdhdAt objectBlock digits decimal field signedField roomLine boxPart walkPart
+    objectLine objectLines refusedLine listingOf
 listed-room = refl
 
 -- an empty input is `refused 1`

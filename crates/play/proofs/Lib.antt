@@ -3,3 +3,4 @@ pub mod FineLaws
 pub mod CallLaws
 pub mod LoadedLaws
 pub mod Demand3
+pub mod IndexRoom

@@ -14,7 +14,7 @@ use Rattle.block.specs.declared.Found.{Found}
 use Rattle.block.specs.declared.Found.the-variants.{At, Missing}
 use Rattle.block.proofs.Laws.{need-at, nth-at, formed-small}
 use Rattle.room.specs.Head.{orMissing, bothFound, headedIn, withHeader}
-use Rattle.room.specs.Head.{backgroundIn, neededIn, objectsRight, sizesRight, roomOf, sized, headIn, headOf, Sound}
+use Rattle.room.specs.Head.{backgroundIn, neededIn, objectsRight, trnsIn, holdsIndex, sizesRight, roomOf, sized, headIn, headOf, Sound}
 use Rattle.room.specs.declared.Parts.{Parts}
 use Rattle.room.specs.declared.Headed.{Headed}
 use Rattle.room.specs.declared.Headed.the-variants.{Both}
@@ -93,6 +93,11 @@ module _ (s : List ℕ) where
   pub parts-lie : (p : Parts) → needed.All p ≡ neededIn s → Lies s p
   parts-lie p h = subst⁻¹ AllLie h needed-lies
 
+-- where the room's TRNS lies
+pub trns-lies : (s : List ℕ) (b z : ℕ) → At b z ≡ trnsIn s → (b + 8 ≤ z) × (z ≤ length s)
+unfolding trnsIn
+trns-lies s b z at = let i = nth-at _ _ _ _ _ _ _ at in (omega (arith, i), omega (arith, i))
+
 -- a conjunction's last part, and what is before it
 module _ (w h n objects : ℕ) (all : sizesRight w h n objects ≡ true) where
   pub sizes-hold : (w % 8 ≡ 0) × (8 ≤ w) × (w ≤ 1024) × (1 ≤ h) × (h ≤ 200) × (n ≤ 4) × (objects ≤ 128)
@@ -150,7 +155,7 @@ module _ (s : List ℕ) where
   sized-sound small p lies = sound-of small (roomOf s p) _ refl (lies .image-in) (lies .image-last) (lies .smap-in) (lies .smap-last)
 
   in-sound : length s ≤ 1048576 → (f : Needed) → f ≡ neededIn s → AllSound (headIn s f)
-  in-sound small (needed.All p) e = go (objectsRight s)
+  in-sound small (needed.All p) e = go (objectsRight s && holdsIndex (trnsIn s))
     where
       go : (q : Bool) → AllSound (cond q (sized (roomOf s p)) (Refused 2))
       go true = sized-sound small p (parts-lie s p e)

@@ -2,11 +2,11 @@
 use Prim.Native.Nat.{ℕ, _+_, _%_, _≤_}
 use mathlib.Core.Path.{_≡_}
 use mathlib.Core.List.{List}
-use mathlib.Core.Bool.{Bool, _&&_, cond}
-use lib.ListN.{length}
-use lib.Dec.{leb, eqb}
+use mathlib.Core.Bool.{Bool, true, _&&_, cond}
+use lib.ListN.{length, getD}
+use lib.Dec.{leb, ltb, eqb}
 use Rattle.number.specs.Number.{le16}
-use Rattle.block.specs.Tag.{tag-RMHD, tag-RMIM, tag-RMIH, tag-IM00, tag-SMAP, tag-OBCD, tag-CDHD, tag-OBIM, tag-IMHD}
+use Rattle.block.specs.Tag.{tag-RMHD, tag-RMIM, tag-RMIH, tag-IM00, tag-SMAP, tag-OBCD, tag-CDHD, tag-OBIM, tag-IMHD, tag-TRNS}
 use Rattle.block.specs.Tree.{wellFormed, needTag, findTag, countTag, eachHas}
 use Rattle.block.specs.declared.Found.{Found}
 use Rattle.block.specs.declared.Found.the-variants.{At, Missing}
@@ -55,11 +55,25 @@ neededIn s = withHeader (headedIn tag-RMHD 6 tag-RMIM s 8 (length s)) λ hd im i
 unfoldable pub objectsRight : List ℕ → Bool
 objectsRight s = eachHas tag-OBCD tag-CDHD 13 s 8 (length s) && eachHas tag-OBIM tag-IMHD 16 s 8 (length s)
 
+-- the first TRNS directly under ROOM
+unfoldable pub trnsIn : List ℕ → Found
+trnsIn s = findTag tag-TRNS s 8 (length s)
+
+-- change request 9: "2 for an empty TRNS payload"
+abbrev pub holdsIndex : Found → Bool
+holdsIndex (At b z) = ltb (b + 8) z
+holdsIndex Missing = true
+
+-- change request 9: "whose first byte is the room's transparent index; without one it is 255"
+abbrev pub indexIn : List ℕ → Found → ℕ
+indexIn s (At b z) = getD s (b + 8) 0
+indexIn s Missing = 255
+
 -- width a multiple of 8, 8 to 1,024; height 1 to 200; planes 0 to 4; objects 0 to 128
 unfoldable pub sizesRight : (w h n objects : ℕ) → Bool
 sizesRight w h n objects = eqb (w % 8) 0 && leb 8 w && leb w 1024 && leb 1 h && leb h 200 && leb n 4 && leb objects 128
 
--- what RMHD and RMIH say, with the OBCD blocks counted; the transparent index of every room is 255
+-- what RMHD, RMIH and TRNS say, with the OBCD blocks counted
 unfoldable pub roomOf : List ℕ → Parts → Room
 roomOf s p =
     record {
@@ -67,7 +81,7 @@ roomOf s p =
       height = le16 s (p .header + 2);
       planes = le16 s (p .«image_header»);
       objects = countTag tag-OBCD s 8 (length s);
-      clear = 255;
+      clear = indexIn s (trnsIn s);
       image = p .image;
       «image_end» = p .«image_end»;
       smap = p .smap;
@@ -78,7 +92,7 @@ unfoldable pub sized : Room → Tested
 sized r = cond (sizesRight (r .width) (r .height) (r .planes) (r .objects)) (Right r) (Refused 3)
 
 abbrev pub headIn : List ℕ → Needed → Tested
-headIn s (needed.All p) = cond (objectsRight s) (sized (roomOf s p)) (Refused 2)
+headIn s (needed.All p) = cond (objectsRight s && holdsIndex (trnsIn s)) (sized (roomOf s p)) (Refused 2)
 headIn s needed.Missing = Refused 2
 
 -- refusals 1, 2 and 3 of a room, in that order, or its sizes and where its picture stands

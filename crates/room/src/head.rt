@@ -1,8 +1,9 @@
 // Refusals 1 to 3: the tree, the needed blocks, the sizes.
 ghost use mathlib.Core.Path.{_≡_};
+ghost use mathlib.Core.Bool.{true};
 ghost use Prim.Native.Nat.{_+_, _≤_};
 ghost use lib.ListN.{length};
-ghost use Rattle.room.specs.Head.{headedIn, backgroundIn, neededIn, objectsRight, roomOf, sizesRight, sized, headOf};
+ghost use Rattle.room.specs.Head.{headedIn, backgroundIn, neededIn, objectsRight, trnsIn, holdsIndex, indexIn, roomOf, sizesRight, sized, headOf};
 use crate::Headed;
 use crate::Needed;
 use crate::Parts;
@@ -22,6 +23,7 @@ use block::tags::RMHD;
 use block::tags::RMIH;
 use block::tags::RMIM;
 use block::tags::SMAP;
+use block::tags::TRNS;
 use number::read_le16;
 
 // The payloads of the first block with the tag `header`, of `n` bytes or more, and of the first with the tag `body`, in the list [at, end).
@@ -76,9 +78,32 @@ fn objects_right(s: &[u8]) -> bool
     each_has(s, 8, s.len(), OBCD, CDHD, 13) & each_has(s, 8, s.len(), OBIM, IMHD, 16)
 }
 
-// What RMHD and RMIH say, with the OBCD blocks counted. The transparent index of every room is 255.
-fn room_of(s: &[u8], p: Parts) -> Room
+// Whether TRNS, where there is one, has its byte.
+fn holds_index(s: &[u8], trns: Found) -> bool
+    requires { ⌜ trns ≡ trnsIn (now s) ⌝ }
+    ensures { λ r. ⌜ r ≡ holdsIndex trns ⌝ }
+{
+    match trns {
+        Found::At(b, z) => b + 8 < z,
+        Found::Missing => true,
+    }
+}
+
+// The room's transparent index: TRNS's first byte, 255 where there is none.
+fn index_in(s: &[u8], trns: Found) -> u8
+    requires { ⌜ (trns ≡ trnsIn (now s)) × (holdsIndex trns ≡ true) ⌝ }
+    ensures { λ r. ⌜ r ≡ indexIn (now (s .entry)) trns ⌝ }
+{
+    match trns {
+        Found::At(b, _) => s[b + 8],
+        Found::Missing => 255,
+    }
+}
+
+// What RMHD, RMIH and TRNS say, with the OBCD blocks counted.
+fn room_of(s: &[u8], p: Parts, trns: Found) -> Room
     requires { ⌜ (p .header + 6 ≤ length (now s)) × (p .«image_header» + 2 ≤ length (now s)) ⌝ }
+    requires { ⌜ (trns ≡ trnsIn (now s)) × (holdsIndex trns ≡ true) ⌝ }
     ensures { λ r. ⌜ r ≡ roomOf (now (s .entry)) p ⌝ }
 {
     let header = p.header;
@@ -87,12 +112,13 @@ fn room_of(s: &[u8], p: Parts) -> Room
     let height = read_le16(s, header + 2);
     let planes = read_le16(s, image_header);
     let objects = count_tag(s, 8, s.len(), OBCD);
+    let clear = index_in(s, trns);
     Room {
         width,
         height,
         planes,
         objects,
-        clear: 255,
+        clear,
         image: p.image,
         image_end: p.image_end,
         smap: p.smap,
@@ -127,8 +153,9 @@ pub fn read_head(s: &[u8]) -> Tested
     }
     match needed(s) {
         Needed::All(p) => {
-            if objects_right(s) {
-                let room = room_of(s, p);
+            let trns = find_tag(s, 8, s.len(), TRNS);
+            if objects_right(s) & holds_index(s, trns) {
+                let room = room_of(s, p, trns);
                 sized_room(room)
             } else {
                 Tested::Refused(2)

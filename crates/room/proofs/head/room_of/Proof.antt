@@ -1,5 +1,7 @@
-use Rattle.room.specs.Head.{roomOf}
-use Prim.Native.Nat.{_-_}
+-- `room::head::room_of` meets its contract. Assumes nothing.
+use Rattle.room.specs.Head.{indexIn, roomOf}
+use denote.Ref.{now}
+use mathlib.Core.Path.{ap, _∙_}
 use borrow.Author.Needs.{needs}
 use Rattle.room.proofs.head.room_of.Statement.{statement}
 use Rattle.room.proofs.head.room_of.Tie as tie
@@ -7,19 +9,23 @@ use Rattle.room.proofs.head.room_of.Tie as tie
 returns : tie.Need-returns
 unfolding roomOf
 returns c =
+    let start = c .before .before .before .before .before .before in
+    let parts = start .args .p in
+    let clear = c .index-in .ensures ∙ ap (indexIn (now (start .args .s))) (start .pre .1 .0) in
     λ i. record {
-      width = c .before .before .before .read-le16 .ensures .0 i;
-      height = c .before .before .read-le162 .ensures .0 i;
-      planes = c .before .read-le163 .ensures .0 i;
-      objects = c .count-tag .ensures i;
-      clear = 255;
-      image = c .before .before .before .before .before .args .p .image;
-      «image_end» = c .before .before .before .before .before .args .p .«image_end»;
-      smap = c .before .before .before .before .before .args .p .smap;
-      «smap_end» = c .before .before .before .before .before .args .p .«smap_end»;
+      width = c .before .before .before .before .read-le16 .ensures .0 i;
+      height = c .before .before .before .read-le162 .ensures .0 i;
+      planes = c .before .before .read-le163 .ensures .0 i;
+      objects = c .before .count-tag .ensures i;
+      clear = clear i;
+      image = parts .image;
+      «image_end» = parts .«image_end»;
+      smap = parts .smap;
+      «smap_end» = parts .«smap_end»;
     }
 
 pub room-of-spec : {M : Type 1} → statement M
 room-of-spec =
     tie.close (
-    tie.spec (λ c κs. search needs) (λ c. search needs) (λ c κs. search needs) (λ c κs. search needs) (λ c κs. search needs) returns)
+    tie.spec (λ c κs. search needs) (λ c. search needs) (λ c κs. search needs) (λ c κs. search needs) (λ c κs. search needs)
+    (λ c κs. search needs) returns)
