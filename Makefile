@@ -8,7 +8,7 @@
 #     make compare                     target/host/compare, in what two rooms differ
 #     make write                       target/host/write, one block
 #     make programs                    example, show, compare and write
-#     make picture                     docs/harbour.png and docs/compared.png, the pictures of the README
+#     make picture                     docs/harbour.png, docs/winter.png and docs/compared.png, the pictures of the README
 #     make test                        ./test
 #     make check                       ./test, too
 #     make clean                       removes target/: what was built, and what rt has proved
@@ -61,13 +61,13 @@ install: $(LIBRARY)
 uninstall:
 	rm -f "$$TREE/include/kildegrom.h" "$$TREE/lib/libkildegrom.a" "$$TREE/lib/pkgconfig/kildegrom.pc"
 
-picture: docs/harbour.png docs/compared.png
+picture: docs/harbour.png docs/winter.png docs/compared.png
 
-SHOW_HARBOUR = ./show rooms/harbour.room rooms/harbour.calls --palette rooms/harbour.pal
-docs/harbour.png: rooms/harbour.room rooms/harbour.calls rooms/harbour.pal tools/png $(OUT)/show
-	$(SHOW_HARBOUR) > $(OUT)/harbour.ppm
-	$(SHOW_HARBOUR) --plane 1 --boxes > $(OUT)/harbour-plane.ppm
-	tools/png --scale 2 $(OUT)/harbour.ppm $(OUT)/harbour-plane.ppm > $@
+SHOWN = ./show rooms/$*.room rooms/$*.calls --palette rooms/$*.pal
+docs/harbour.png docs/winter.png: docs/%.png: rooms/%.room rooms/%.calls rooms/%.pal tools/png $(OUT)/show
+	$(SHOWN) > $(OUT)/$*.ppm
+	$(SHOWN) --plane 1 --boxes > $(OUT)/$*-plane.ppm
+	tools/png --scale 2 $(OUT)/$*.ppm $(OUT)/$*-plane.ppm > $@
 
 # Status 1 says that the rooms differ, as these do.
 docs/compared.png: rooms/harbour.room rooms/harbour-b.room rooms/harbour.pal tools/png $(OUT)/compare

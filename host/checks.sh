@@ -15,6 +15,17 @@ head -c 100 rooms/cellar.room > "$scratch/cut"
 fail() { printf '%s: %s\n' "$0" "$1" >&2; exit 1; }
 skipped() { printf '%s: skipped: %s\n' "$0" "$1"; }
 
+# pictures FILE PROGRAM: for each line of FILE, a checksum (cksum), a size and words, the picture that the program writes given these words.
+pictures() {
+    local sum size words got
+    while read -r sum size words; do
+        [ "$sum" != '#' ] || continue
+        # shellcheck disable=SC2086 # the words are arguments
+        got=$("$2" $words | cksum) || fail "$2 $words: exit status $?"
+        [ "$got" = "$sum $size" ] || fail "$2 $words: checksum $got, not $sum $size"
+    done < "$1"
+}
+
 # refused STATUS TEXT COMMAND...: the command ends with that status, says the text on standard error and writes nothing else.
 refused() {
     local status=$1 text=$2 got=0

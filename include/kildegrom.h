@@ -352,10 +352,10 @@ uint64_t kg_limb_draws(const uint8_t *limbs, size_t limbs_size, uint32_t limb);
 /** Compares two rooms by what they decode to, strip by strip, left to right. For each strip whose pixels or whose rows in any plane differ a
  * place of `list` is filled (KG_DIFFERENCE_SIZE bytes; kg_difference_at reads them): the strip, how many of its pixels differ and which
  * planes. The value is how many places were filled: 0 where nothing differs. The same picture under another code is no difference; planes
- * are compared up to the larger number of planes, one that a room doesn't declare reading as zero. Objects and the
- * transparent colour are not compared. a and b may be the same bytes. Refusals: 1 to 8 without 4 for a, then for b, then 16 where width or
- * height differs, then 4 where the list has fewer places than strips differ; KG_MAX_DIFFERENCES bytes are always enough. kg_record tells
- * which of the two rooms is refused. */
+ * are compared up to the larger number of planes, one that a room doesn't declare reading as zero. Objects and the transparent
+ * colour are not compared. a and b may be the same bytes. Refusals: 1 to 8 without 4 for a, then for b, then 16 where width or height differs,
+ * then 4 where the list has fewer places than strips differ; KG_MAX_DIFFERENCES bytes are always enough. kg_record tells which of the two
+ * rooms is refused. */
 uint64_t kg_compare(const uint8_t *a, size_t a_size, const uint8_t *b, size_t b_size, uint8_t *list, size_t list_size);
 
 /** A place of kg_compare's list. */

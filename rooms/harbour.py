@@ -3,18 +3,17 @@
 room, rooms/harbour-b.room, for ./compare: a crate stands elsewhere, the sign is repainted, the rope hides less, two objects have changed, and
 some strips of the background that are alike have other codes.
 
-Run it from the repository's top folder: `python3 rooms/harbour.py [FOLDER]`; FOLDER stands for rooms. Pictures and planes are written by
-the project's own writers, through host/write. The writers make opaque strips only (code 1C); a strip of an object's image with a
-transparent pixel gets the transparent code of the same bits (30).
+Run it from the repository's top folder: `python3 rooms/harbour.py [FOLDER]`; FOLDER stands for rooms. rooms/paint.py has what it paints and
+writes with.
 """
 import math
-import os
 import struct
-import subprocess
 import sys
 
 sys.dont_write_bytecode = True
-from make import block, imhd, obcd, raw, rmhd, rmim, table, with_runs  # noqa: E402
+import paint  # noqa: E402
+from make import block, raw, table, with_runs  # noqa: E402
+from paint import Picture, dither, noise  # noqa: E402
 
 W, H = 320, 144
 HORIZON, QUAY = 74, 100
@@ -36,75 +35,8 @@ RAMPS = (  # name, count of colours, colours between which the others are set
     ("IRON", 8, ((10, 10, 16), (112, 114, 124))),
     ("FISH", 6, ((60, 84, 104), (206, 222, 216))),
 )
-BAYER = ((0, 8, 2, 10), (12, 4, 14, 6), (3, 11, 1, 9), (15, 7, 13, 5))
-
-
-def between(colours, count):
-    """`count` colours at equal steps along the list of colours."""
-    made = []
-    for k in range(count):
-        at = k * (len(colours) - 1) / max(1, count - 1)
-        i = min(int(at), max(0, len(colours) - 2))
-        low, high = colours[i], colours[min(i + 1, len(colours) - 1)]
-        made.append(tuple(round(a + (b - a) * (at - i)) for a, b in zip(low, high)))
-    return made
-
-
-def ramps():
-    """Where each ramp starts and how many colours it has, and the palette's 768 bytes."""
-    where, colours = {}, []
-    for name, count, stops in RAMPS:
-        where[name] = (len(colours), count)
-        colours += between(stops, count)
-    return where, bytes(v for colour in colours for v in colour).ljust(768, b"\0")
-
-
-WHERE, PALETTE = ramps()
-
-
-def noise(x, y, seed=0):
-    """A fixed number from 0 to 1 for a place."""
-    n = (x * 374761393 + y * 668265263 + seed * 974634777) & 0xFFFFFFFF
-    n = (n ^ n >> 13) * 1274126177 & 0xFFFFFFFF
-    return ((n ^ n >> 16) & 1023) / 1023
-
-
-def shade(name, light, x=None, y=0):
-    """The colour of a ramp for a light from 0 to 1; with a place, between two colours as a fixed pattern decides."""
-    start, count = WHERE[name]
-    at = max(0.0, min(1.0, light)) * (count - 1)
-    return start + min(count - 1, int(at + (0.5 if x is None else (BAYER[y % 4][x % 4] + 0.5) / 16)))
-
-
-class Picture:
-    """Rows of colours, and the same places in planes 1 and 2."""
-
-    def __init__(self, w, h, colour=0):
-        self.w, self.h = w, h
-        self.rows = [bytearray([colour] * w) for _ in range(h)]
-        self.planes = [[bytearray(w // 8) for _ in range(h)] for _ in range(2)]
-
-    def put(self, x, y, colour, planes=()):
-        x, y = int(x), int(y)
-        if 0 <= x < self.w and 0 <= y < self.h:
-            self.rows[y][x] = colour
-            for k in planes:
-                self.planes[k - 1][y][x // 8] |= 0x80 >> x % 8
-
-    def fill(self, box, colour_at, planes=()):
-        """Every pixel of the box (left, top, right, bottom) that colour_at(x, y) gives a colour for."""
-        left, top, right, bottom = box
-        for y in range(top, bottom):
-            for x in range(left, right):
-                colour = colour_at(x, y)
-                if colour is not None:
-                    self.put(x, y, colour, planes)
-
-    def line(self, x0, y0, x1, y1, colour, planes=()):
-        steps = int(max(abs(x1 - x0), abs(y1 - y0), 1))
-        for k in range(steps + 1):
-            self.put(round(x0 + (x1 - x0) * k / steps), round(y0 + (y1 - y0) * k / steps), colour, planes)
-
+PALETTE = paint.Palette(RAMPS)
+shade = PALETTE.shade
 
 def sky(p):
     def colour(x, y):
@@ -387,7 +319,7 @@ def lamp(state):
             return shade("IRON", 0.5)
         if 4 < x < 11 and 8 < y < 18:
             return shade("GLOW", 1.15 - far / 7) if state == 2 else shade("STONE", 0.3, x, y)
-        if state == 2 and far < 8 and (BAYER[y % 4][x % 4] + 0.5) / 16 < 1.1 - far / 8:
+        if state == 2 and far < 8 and dither(x, y) < 1.1 - far / 8:
             return shade("GLOW", 0.95 - far / 14)
         return None
     p.fill((0, 0, 16, 24), colour)
@@ -424,11 +356,8 @@ FLYING = (
 
 
 def gull(state):
-    p = Picture(16, 16, CLEAR)
     colours = {"w": shade("SAIL", 1.0), "g": shade("SAIL", 0.5), "k": shade("BLACK", 0), "o": shade("GLOW", 0.45)}
-    rows = SITTING if state == 1 else FLYING
-    p.fill((0, 0, 16, len(rows)), lambda x, y: colours.get(rows[y][x]))
-    return p
+    return Picture(16, 16, CLEAR).letters(0, 0, SITTING if state == 1 else FLYING, colours)
 
 
 OBJECTS = (  # name, picture of a state, states, strip position, size in strips, what else the header has
@@ -441,18 +370,8 @@ OBJECTS = (  # name, picture of a state, states, strip position, size in strips,
 )
 
 
-def written(rows, *words):
-    """One block from host/write."""
-    done = subprocess.run(["target/host/write"] + [str(word) for word in words], input=b"".join(rows), stdout=subprocess.PIPE, check=True)
-    return done.stdout
-
-
 def smap(p):
-    made = bytearray(written(p.rows, "smap", p.w, p.h))
-    for s in range(p.w // 8):
-        if any(CLEAR in row[8 * s:8 * s + 8] for row in p.rows):
-            made[struct.unpack_from("<I", made, 8 + 4 * s)[0]] = 0x30
-    return bytes(made)
+    return paint.smap(p, CLEAR)
 
 
 def recoded(p, other):
@@ -467,49 +386,22 @@ def recoded(p, other):
     return block(b"SMAP", table(4, bodies))
 
 
-def image(p, strips=smap):
-    planes = b"".join(written(p.planes[k], "plane", p.w, p.h, k + 1) for k in range(2) if any(map(any, p.planes[k])))
-    return strips(p) + planes
-
-
-def room(picture, kinds=OBJECTS):
-    images, objects = b"", b""
-    for k, (name, draw, states, (x, y), (w, h), rest) in enumerate(kinds):
-        number = 201 + k
-        bodies = b"".join(block(b"IM%02d" % s, image(draw(s))) for s in range(1, states + 1))
-        images += block(b"OBIM", imhd(number, states, 8 * x, 8 * y, 8 * w, 8 * h) + bodies)
-        objects += obcd(number, name, x=x, y=y, w=w, h=h, **rest)
-    return block(b"ROOM", rmhd(W, H, len(kinds)) + rmim(2, picture) + images + objects)
+def room(p, strips=smap, kinds=OBJECTS):
+    return paint.room(W, H, paint.image(p, strips), kinds, 201, CLEAR)
 
 
 def room_b(a):
     """Version B: its background, a keg in place of the barrel, and a gull that is looked at from nearer."""
-    b = background_b()
     kinds = list(OBJECTS)
     kinds[1] = (b"keg@@@", *OBJECTS[1][1:])
     kinds[5] = (*OBJECTS[5][:5], dict(walk=(60, 126)))
-    return room(image(b, lambda p: recoded(p, a)), kinds)
+    return room(background_b(), lambda p: recoded(p, a), kinds)
 
 
-def stop(why):
-    sys.stderr.write("harbour.py: %s\n" % why)
-    sys.exit(2)
-
-
-def main(words):
-    if not os.path.isfile("rooms/harbour.py"):
-        stop("run it from the repository's top folder: python3 rooms/harbour.py [FOLDER]")
-    if len(words) > 1 or not os.path.isdir((words + ["rooms"])[0]):
-        stop("usage: python3 rooms/harbour.py [FOLDER]; the folder is there already")
-    folder = (words + ["rooms"])[0]
-    subprocess.run(["make", "-s", "write"], stdout=subprocess.DEVNULL, check=True)
+def files():
     a = background()
-    for name, made in (("harbour", room(image(a))), ("harbour-b", room_b(a))):
-        if len(made) > 65536:
-            stop("%s.room has %d bytes, more than ./list reads" % (name, len(made)))
-        open("%s/%s.room" % (folder, name), "wb").write(made)
-    open(folder + "/harbour.pal", "wb").write(PALETTE)
+    return ("harbour.room", room(a)), ("harbour-b.room", room_b(a)), ("harbour.pal", PALETTE.bytes())
 
 
 if __name__ == "__main__":
-    main(sys.argv[1:])
+    paint.main("harbour.py", sys.argv[1:], files)

@@ -3,7 +3,7 @@
 program list_test lists, with what their listings must be.
 
 Run it from the repository's top folder: `python3 rooms/make.py`. The numbers that it expects are written down here from document 01 and
-change request 5, case by case; nothing of the Rattle code is asked.
+change requests 5 and 9, case by case; nothing of the Rattle code is asked.
 """
 import os
 import struct
@@ -121,6 +121,9 @@ def cases():
     yield "other_tags", room(rest=block(b"XXXX", b"abc")), listed(16, 2, 0)
     yield "room_in_room", room(rest=block(b"ROOM", obcd(5))), listed(16, 2, 0)
     yield "depth_6", room(rest=block(b"OBIM", imhd(9) + block(b"IM01", block(b"IM02", block(b"IM03", block(b"XXXX")))))), listed(16, 2, 0)
+    yield "index", room(rest=block(b"TRNS", b"\7\0")), listed(16, 2, 0)
+    yield "second_index_empty", room(rest=block(b"TRNS", b"\7") + block(b"TRNS")), listed(16, 2, 0)
+    yield "index_below", room(rest=block(b"OBIM", imhd(9) + block(b"TRNS"))), listed(16, 2, 0)
     yield "objects_128", room(rest=b"".join(obcd(k) for k in range(128))), listed(
         16, 2, 0, ["id %d box 0 0 8 8 walk 0 0" % k for k in range(128)])
 
@@ -147,6 +150,9 @@ def cases():
     yield "cdhd_12_bytes", room(rest=block(b"OBCD", block(b"CDHD", bytes(12)))), 2
     yield "no_imhd", room(rest=block(b"OBIM")), 2
     yield "imhd_15_bytes", room(rest=block(b"OBIM", block(b"IMHD", bytes(15)))), 2
+    yield "index_empty", room(rest=block(b"TRNS")), 2
+    yield "first_index_empty", room(rest=block(b"TRNS") + block(b"TRNS", b"\7")), 2
+    yield "index_before_three", room(head=rmhd(12, 2), rest=block(b"TRNS")), 2
     yield "two_before_three", room(rest=b"".join(obcd(k) for k in range(128)) + block(b"OBCD")), 2
 
     yield "width_12", room(head=rmhd(12, 2)), 3

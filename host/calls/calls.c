@@ -51,20 +51,20 @@ static void load_and_write(struct lent room)
     give_back(again);
     give_back(masks_again);
 
-    {   /* an actor of 8 by 8 pixels behind the plane's row of 255s, from row 88 on */
+    {   /* an actor of 8 by 8 pixels behind the plane's row of 255s, from row 88 on; its pixels of 255 are clear */
         struct lent actor = lend(64, 9);
-        actor.at[0] = 255;
+        actor.at[0] = actor.at[6] = 255;
         expect(kg_hidden(masks.at, masks.size, WIDTH, HEIGHT, 1, 1, 0, 90) == (uint64_t)1 << 32, "a hidden pixel");
         expect(kg_hidden(masks.at, masks.size, WIDTH, HEIGHT, 1, 2, 0, 90) == 0 &&
                kg_hidden(masks.at, masks.size, WIDTH, HEIGHT, 1, 0, 0, 90) == 0, "clips that name no plane");
         expect(kg_hidden(masks.at, masks.size, WIDTH, HEIGHT, 1, 1, WIDTH, 0) == KG_POINT_OUTSIDE, "a point outside");
-        expect(kg_stamp(pixels.at, pixels.size, masks.at, masks.size, actor.at, actor.size, WIDTH, HEIGHT, 1, 8, 8, -4, 84, 1) == KG_ACCEPTED, "the stamp");
-        expect(pixels.at[84 * WIDTH] == 9 && pixels.at[87 * WIDTH + 3] == 9 && pixels.at[87 * WIDTH + 4] != 9 &&
-               pixels.at[88 * WIDTH] != 9, "the stamped frame");
-        expect(kg_stamp(pixels.at, pixels.size, masks.at, masks.size, actor.at, actor.size, WIDTH, HEIGHT, 1, 8, 8, INT32_MIN, INT32_MAX, 1) == KG_ACCEPTED,
-               "a stamp far away");
-        expect(kg_stamp(pixels.at, pixels.size, masks.at, masks.size, actor.at, actor.size, WIDTH, HEIGHT, 1, 129, 8, 0, 0, 1) == KG_OUT_OF_SIZE,
-               "a picture 129 wide");
+#define STAMP(w, x, y) kg_stamp(pixels.at, pixels.size, masks.at, masks.size, actor.at, actor.size, WIDTH, HEIGHT, 1, w, 8, x, y, 1, 255)
+        expect(STAMP(8, -4, 84) == KG_ACCEPTED, "the stamp");
+        expect(pixels.at[84 * WIDTH] == 9 && pixels.at[84 * WIDTH + 2] != 255, "what the stamp paints");
+        expect(pixels.at[87 * WIDTH + 3] == 9 && pixels.at[87 * WIDTH + 4] != 9 && pixels.at[88 * WIDTH] != 9, "the stamped frame");
+        expect(STAMP(8, INT32_MIN, INT32_MAX) == KG_ACCEPTED, "a stamp far away");
+        expect(STAMP(129, 0, 0) == KG_OUT_OF_SIZE, "a picture 129 wide");
+#undef STAMP
         give_back(actor);
     }
     give_back(pixels);

@@ -1,5 +1,5 @@
-/* A room in which the calls go as deep as they can: every kind of strip, four planes, blocks at depth 6, objects with images, and a chain of
- * containers from object 1 to the last one. */
+/* A room in which the calls go as deep as they can: every kind of strip, four planes, blocks at depth 6, objects with images, a chain of
+ * containers from object 1 to the last one, and a transparent index that the strips hold. */
 #ifndef DEEP_H
 #define DEEP_H
 
@@ -143,7 +143,7 @@ static void put_nest(void)
 /* The room's first strip is of kind `from`. */
 static void make_deep(uint32_t objects, uint32_t from)
 {
-    uint32_t room, rmhd, rmim, rmih, k;
+    uint32_t room, rmhd, trns, rmim, rmih, k;
     deep_size = 0;
     room = opened("ROOM");
     rmhd = opened("RMHD");
@@ -151,6 +151,9 @@ static void make_deep(uint32_t objects, uint32_t from)
     put_u16(DEEP_HEIGHT);
     put_u16(0);
     closed(rmhd, "RMHD");
+    trns = opened("TRNS");
+    put_byte(7);
+    closed(trns, "TRNS");
     rmim = opened("RMIM");
     rmih = opened("RMIH");
     put_u16(KG_MAX_PLANES);

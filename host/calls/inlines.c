@@ -39,7 +39,7 @@ static void largest(void)
     struct lent frame = lend(KG_MAX_PIXELS, 0), masks = lend(KG_MAX_MASKS, 0), out = lend(kg_smap_bound(KG_MAX_WIDTH, KG_MAX_HEIGHT), 0);
     const uint32_t w = KG_MAX_WIDTH, h = KG_MAX_HEIGHT, n = KG_MAX_PLANES, wide = KG_MAX_PICTURE_WIDTH, high = KG_MAX_PICTURE_HEIGHT;
 #define HIDDEN(w, h, n) kg_number(kg_hidden(masks.at, masks.size, w, h, n, 1, 0, 0))
-#define STAMP(wide, high) kg_stamp(frame.at, frame.size, masks.at, masks.size, frame.at, 0, w, h, n, wide, high, 0, 0, 0)
+#define STAMP(wide, high) kg_stamp(frame.at, frame.size, masks.at, masks.size, frame.at, 0, w, h, n, wide, high, 0, 0, 0, 255)
     expect(HIDDEN(w, h, n) == KG_ACCEPTED && HIDDEN(w, h, n + 1) == KG_OUT_OF_SIZE, "the planes");
     expect(HIDDEN(w + 8, h, 0) == KG_OUT_OF_SIZE && HIDDEN(w, h + 1, 0) == KG_OUT_OF_SIZE, "the room's size");
     expect(STAMP(wide, high) == KG_BUFFER_SHORT && STAMP(wide + 1, high) == KG_OUT_OF_SIZE && STAMP(wide, high + 1) == KG_OUT_OF_SIZE, "a picture's size");

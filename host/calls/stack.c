@@ -44,7 +44,7 @@ static void ask_compare_short(void) { answer = kg_compare(other, other_size, dee
 static void ask_stamp(void)
 {
     answer = kg_stamp(pixels, sizeof pixels, masks, sizeof masks, picture, sizeof picture, DEEP_WIDTH, DEEP_HEIGHT, 4, KG_MAX_PICTURE_WIDTH,
-                      KG_MAX_PICTURE_HEIGHT, -9, -9, 4);
+                      KG_MAX_PICTURE_HEIGHT, -9, -9, 4, 255);
 }
 
 struct question {

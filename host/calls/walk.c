@@ -10,14 +10,13 @@
 
 enum { SIZE = KG_MAX_ROOM };
 
-static uint8_t *room;
+static uint8_t *room, record[KG_RECORD_SIZE];
 static size_t room_size = SIZE;
 static uint32_t number;
 static double seconds;
 
 static void ask(void)
 {
-    uint8_t record[KG_RECORD_SIZE];
     struct timespec a, b;
     clock_gettime(CLOCK_MONOTONIC, &a);
     number = kg_record(room, room_size, record, sizeof record);
@@ -56,9 +55,13 @@ int main(void)
     memcpy(b + 48, "\14\0\0\0\34\5\0\0\0\0\0\0\0\0\0\0", 16);
     for (at = 72; at < SIZE; at += 8) put_head(room + at, "XXXX", 8);
     report("a room with 131,063 more blocks", KG_ACCEPTED);
+    if (record[KG_RECORD_TRANSPARENT] != 255) return 1;
+    put_head(room + SIZE - 16, "TRNS", 16);   /* its payload's first byte is the head of the block that stood there: an X */
+    report("the same, the last block a TRNS", KG_ACCEPTED);
+    if (record[KG_RECORD_TRANSPARENT] != 'X') return 1;
     room_size = SIZE + 1;
     put_head(room, "ROOM", SIZE + 1);
-    put_head(room + SIZE - 8, "XXXX", 9);
+    put_head(room + SIZE - 16, "TRNS", 17);
     report("one byte more", KG_NOT_A_ROOM);
     free(room);
     return 0;

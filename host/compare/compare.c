@@ -21,7 +21,7 @@ struct options {
  * than a room may have, so that a longer file is refused by the library and not cut. */
 struct side {
     const char *letter, *path;
-    uint32_t number, width, height, planes, objects;
+    uint32_t number, width, height, planes, objects, transparent;
     size_t size, pixels_size, masks_size;
     uint8_t room[KG_MAX_ROOM + 1], pixels[KG_MAX_PIXELS], masks[KG_MAX_MASKS];
 };
@@ -64,6 +64,7 @@ static void take_room(struct side *side, const char *letter, const char *path)
     side->height = kg_u16(record + KG_RECORD_HEIGHT);
     side->planes = kg_u16(record + KG_RECORD_PLANES);
     side->objects = kg_u16(record + KG_RECORD_OBJECTS);
+    side->transparent = record[KG_RECORD_TRANSPARENT];
     side->pixels_size = kg_pixels_size(side->width, side->height);
     side->masks_size = kg_masks_size(side->width, side->height, side->planes);
 }
@@ -162,6 +163,13 @@ static void print_objects(void)
     printf(" (not part of the list)\n");
 }
 
+/* The rooms' transparent colours decide how objects are painted, and a room's strips don't show them. */
+static void print_transparent(void)
+{
+    if (a.transparent == b.transparent) return;
+    printf("transparent colours differ: A %lu B %lu (not part of the list)\n", (unsigned long)a.transparent, (unsigned long)b.transparent);
+}
+
 static uint8_t *dot(uint32_t x, uint32_t y)
 {
     return picture + 3 * ((size_t)y * across + x);
@@ -248,6 +256,7 @@ int main(int argc, char **argv)
     if (o.picture != NULL) write_picture(o.picture);
     print_strips();
     print_objects();
+    print_transparent();
     print_total();
     if (fflush(stdout) != 0 || ferror(stdout)) stop(UNUSABLE, "standard output can't be written: %s", strerror(errno));
     return places == 0 ? ALIKE : DIFFERENT;

@@ -1,4 +1,4 @@
-/* The start of a C host: loads a room, draws its door, moves it and takes that back, puts an actor before and behind plane 1, and writes
+/* The start of a C host: loads a room, draws object 1, moves it and takes that back, puts an actor before and behind plane 1, and writes
  * the frame as a PPM picture in grey.
  *
  *     example ROOM [OUT.ppm]     standard output where no OUT is named
@@ -15,8 +15,9 @@
 static uint8_t room[KG_MAX_ROOM + 1], session[KG_SESSION_SIZE], pixels[KG_MAX_PIXELS], masks[KG_MAX_MASKS], frame[KG_MAX_PIXELS];
 static size_t room_size, pixels_size, masks_size;
 static uint32_t room_w, room_h, planes;
+static uint8_t clear; /* the room's transparent colour */
 
-enum { DOOR = 1, ACTOR_W = 16, ACTOR_H = 40 };
+enum { OBJECT = 1, ACTOR_W = 16, ACTOR_H = 40 };
 
 /* The lent buffers of a session call, in their order. */
 #define LENT room, room_size, session, sizeof session, pixels, pixels_size, masks, masks_size
@@ -52,19 +53,22 @@ static void load(void)
     room_w = kg_u16(record + KG_RECORD_WIDTH);
     room_h = kg_u16(record + KG_RECORD_HEIGHT);
     planes = kg_u16(record + KG_RECORD_PLANES);
+    clear = record[KG_RECORD_TRANSPARENT];
     pixels_size = kg_pixels_size(room_w, room_h);
     masks_size = kg_masks_size(room_w, room_h, planes);
     accepted(kg_load(LENT), "the load");
 }
 
-/* An actor: head, body and legs in three greys. 255 is transparent. */
+/* An actor: head, body and legs in three greys, and what is around them in the room's transparent colour. His ear muffs are as white as
+ * snow, 255; a room whose own transparent colour is 255 has no such white, and he goes without them there. */
 static void paint_actor(uint8_t *picture)
 {
     int x, y;
     for (y = 0; y < ACTOR_H; y++) {
         for (x = 0; x < ACTOR_W; x++) {
             int head = y < 10 && x >= 4 && x < 12, body = y >= 10 && y < 26, leg = y >= 26 && x % 8 >= 1 && x % 8 < 7;
-            picture[y * ACTOR_W + x] = (uint8_t)(head ? 250 : body ? 20 : leg ? 90 : 255);
+            int muff = y >= 3 && y < 8 && ((x >= 1 && x < 4) || (x >= 12 && x < 15));
+            picture[y * ACTOR_W + x] = (uint8_t)(head ? 250 : body ? 20 : leg ? 90 : muff ? 255 : clear);
         }
     }
 }
@@ -75,7 +79,7 @@ static void stamp(int32_t x, int32_t y, uint32_t clip)
     uint8_t picture[ACTOR_W * ACTOR_H];
     paint_actor(picture);
     accepted(kg_stamp(frame, pixels_size, masks, masks_size, picture, sizeof picture, room_w, room_h, planes, ACTOR_W, ACTOR_H, x,
-                      y, clip), "the stamp");
+                      y, clip, clear), "the stamp");
 }
 
 static void write_grey(const char *path)
@@ -97,8 +101,8 @@ int main(int argc, char **argv)
     if (argc < 2 || argc > 3) stop("usage", "example ROOM [OUT.ppm]");
     read_room(argv[1]);
     load();
-    accepted(kg_draw_last(LENT, DOOR, 1), "the door in state 1 where it was");
-    accepted(kg_draw_at(LENT, DOOR, 2, 1, 1), "the door in state 2 at strip position (1, 1)");
+    accepted(kg_draw_last(LENT, OBJECT, 1), "object 1 in state 1 where it was");
+    accepted(kg_draw_at(LENT, OBJECT, 2, 1, 1), "object 1 in state 2 at strip position (1, 1)");
     accepted(kg_take_back(LENT), "the take-back");
     memcpy(frame, pixels, pixels_size);
     stamp(30, 70, 0);  /* clip 0: before every plane */

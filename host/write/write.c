@@ -1,5 +1,5 @@
-/* Writes one block with the library's writers: the rows come from standard input, the block goes to standard output. rooms/harbour.py
- * makes its room with it.
+/* Writes one block with the library's writers: the rows come from standard input, the block goes to standard output. rooms/paint.py
+ * makes the painted rooms with it.
  *
  *     write smap W H        W * H pixel bytes, the block SMAP
  *     write plane W H K     (W / 8) * H mask bytes, the block ZP0K
