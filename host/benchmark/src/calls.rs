@@ -166,7 +166,7 @@ pub fn stamp(side: Side, room: &Room, frame: &mut [u8], masks: &[u8], a: &actor:
         Side::Reference => actor::stamp(frame, masks, w, h, n, a),
         Side::Library => {
             let ((f, m), (p, pn)) = ((frame.as_mut_ptr(), masks.as_ptr()), (a.picture.as_ptr(), a.picture.len()));
-            unsafe { kg_stamp(f, frame.len(), m, masks.len(), p, pn, w, h, n, a.width, a.height, a.x, a.y, a.clip) }
+            unsafe { kg_stamp(f, frame.len(), m, masks.len(), p, pn, w, h, n, a.width, a.height, a.x, a.y, a.clip, a.clear) }
         }
     };
     assert_eq!(number, 0, "a stamp was refused");

@@ -2,7 +2,7 @@
 //!
 //!     benchmark                  every table, a few minutes; then whether the goals are met. The exit status is 0 either way
 //!     benchmark quick            everything once in a few seconds: the comparisons count, the times don't
-//!     benchmark --instructions   instructions a pixel for the loads, where valgrind is on the machine
+//!     benchmark --instructions   instructions a pixel for the loads and of calls that paint, where valgrind is on the machine
 //!     benchmark ROOM             how long the load and the whole test of one room take
 //!
 //! Before a thing is timed, its result is compared, byte by byte, with the reference's and for loads with the unchecked pass's too.

@@ -55,12 +55,16 @@ pub fn plane(k: usize, w: usize, h: usize) -> Vec<u8> {
     (0..strips * h).map(bits).collect()
 }
 
-/// An object or actor of this size: a grained ellipse, 255 around it.
-pub fn shape(width: usize, height: usize, colour: usize) -> Vec<u8> {
+/// An object or actor of this size: a grained ellipse, the transparent index around it and nowhere in it.
+pub fn shape(width: usize, height: usize, colour: usize, clear: u8) -> Vec<u8> {
     let inside = |x: usize, y: usize| {
         let (dx, dy) = ((2 * x + 1).abs_diff(width) * height, (2 * y + 1).abs_diff(height) * width);
         dx * dx + dy * dy <= (width * height) * (width * height)
     };
-    let pixel = |x: usize, y: usize| if inside(x, y) { ((colour + y / 4 + noise(x, y) % 3) % 250) as u8 } else { 255 };
+    let grained = |x: usize, y: usize| match ((colour + y / 4 + noise(x, y) % 3) % 250) as u8 {
+        pixel if pixel == clear => 251,
+        pixel => pixel,
+    };
+    let pixel = |x: usize, y: usize| if inside(x, y) { grained(x, y) } else { clear };
     (0..width * height).map(|i| pixel(i % width, i / width)).collect()
 }

@@ -115,11 +115,13 @@ pub struct Spec {
     pub objects: usize,
     /// Width and height of the objects' images.
     pub image: (usize, usize),
+    /// The transparent index. A TRNS block gives it where it isn't 255.
+    pub clear: u8,
 }
 
 impl Spec {
     pub fn background(w: usize, h: usize, n: usize, picture: Picture, methods: &'static [Method]) -> Spec {
-        Spec { w, h, n, picture, methods, objects: 0, image: (0, 0) }
+        Spec { w, h, n, picture, methods, objects: 0, image: (0, 0), clear: 255 }
     }
 
     /// A room as a game has it, all methods in turn and objects of 32 by 40.
@@ -135,7 +137,7 @@ impl Spec {
     /// State 1 is a transparent shape under both methods in turn, state 2 an opaque picture.
     fn state(&self, object: usize, state: usize) -> Vec<u8> {
         let (width, height) = self.image;
-        let pixels = if state == 1 { shape(width, height, 16 * object) } else { self.picture.pixels(width, height) };
+        let pixels = if state == 1 { shape(width, height, 16 * object, self.clear) } else { self.picture.pixels(width, height) };
         let mut bodies = vec![];
         for (s, strip) in strips(&pixels, width).iter().enumerate() {
             let method = if s % 2 == 0 { Method::Horizontal } else { Method::Second };
@@ -167,8 +169,9 @@ impl Spec {
         let im00 = block("IM00", &[smap(&bodies), planes.concat()].concat());
         let rmim = block("RMIM", &[block("RMIH", &u16s(&[self.n])), im00].concat());
         let rmhd = block("RMHD", &u16s(&[self.w, self.h, self.objects]));
+        let trns = if self.clear == 255 { vec![] } else { block("TRNS", &[self.clear]) };
         let objects: Vec<Vec<u8>> = (0..self.objects).map(|i| self.object(i)).collect();
-        Room::new(self, block("ROOM", &[rmhd, rmim, objects.concat()].concat()))
+        Room::new(self, block("ROOM", &[rmhd, trns, rmim, objects.concat()].concat()))
     }
 }
 

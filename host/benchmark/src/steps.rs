@@ -13,14 +13,23 @@ use std::hint::black_box;
 /// Rooms with planes and objects.
 const ROOMS: [(usize, usize, usize, usize); 3] = [(320, 144, 1, 12), (640, 200, 4, 24), (1024, 200, 4, 48)];
 /// Steps in the history before the measured one.
-const STEPS: usize = 8;
+pub const STEPS: usize = 8;
 /// Calls in one timing, where a call is short.
 const MANY: usize = 16;
+/// A transparent index other than 255, for the rows that show whether it costs anything (change request 9).
+pub const OTHER: u8 = 7;
+/// Actors: width, height and clip level.
+pub const ACTORS: [(u32, u32, u32); 4] = [(24, 40, 0), (24, 40, 1), (128, 144, 0), (128, 144, 1)];
 
-/// Draw number i of a history.
-pub fn draw(room: &Room, i: usize) -> Turn {
+/// A draw at the place of draw number i of a history. State 1 is a transparent one, 2 an opaque one.
+pub fn draw_state(room: &Room, i: usize, state: usize) -> Turn {
     let (a, b) = room.spec.place(i + 1);
-    Turn::DrawAt([i % room.spec.objects + 1, 1 + i % 2, a, b].map(|number| number as u32))
+    Turn::DrawAt([i % room.spec.objects + 1, state, a, b].map(|number| number as u32))
+}
+
+/// Draw number i of a history: states in turn.
+pub fn draw(room: &Room, i: usize) -> Turn {
+    draw_state(room, i, 1 + i % 2)
 }
 
 /// What a turn makes of a stage, on both sides alike.
@@ -79,6 +88,7 @@ fn row(room: &Room, name: &str, [library, reference, pass]: Times) {
 
 fn room_calls(effort: Effort, goals: &mut Goals, (w, h, n, objects): (usize, usize, usize, usize)) {
     let room = &Spec::furnished(w, h, n, objects).make();
+    let other = &Spec { clear: OTHER, ..room.spec }.make();
     let (before, next) = (played(room, STEPS), draw(room, STEPS));
     let drawn = after(room, &before, next);
     let newest = (STEPS % objects + 1) as u32;
@@ -93,6 +103,8 @@ fn room_calls(effort: Effort, goals: &mut Goals, (w, h, n, objects): (usize, usi
     call("record", question(effort, room, |side| record(side, room.bytes())));
     call("listing", question(effort, room, |side| listing(side, room)));
     call("draw", step(effort, room, &before, next));
+    call(&format!("draw, {OTHER}"), step(effort, other, &played(other, STEPS), next));
+    call("draw solid", step(effort, room, &before, draw_state(room, STEPS, 2)));
     call("take back", step(effort, room, &drawn, Turn::TakeBack));
     call("hide", step(effort, room, &drawn, Turn::Hide(newest)));
     call("object at", question(effort, room, |side| object_at(side, room.bytes(), &drawn.session, &flags, point)));
@@ -110,12 +122,16 @@ fn hidden_row(effort: Effort, goals: &mut Goals, room: &Room, stage: &Stage) {
     let times = question(effort, room, ask);
     goals.call(&times, "hidden");
     let [library, reference, _] = times;
-    println!("{:<28} {:>9} {:>8.2} {:>7.2}", "hidden, at every point", 1, library / room.pixels() as f64, library / reference);
+    println!("{:<30} {:>9} {:>8.2} {:>7.2}", "hidden, at every point", 1, library / room.pixels() as f64, library / reference);
 }
 
-fn stamp_row(effort: Effort, goals: &mut Goals, room: &Room, stage: &Stage, (width, height, clip): (u32, u32, u32)) {
-    let picture = &shape(width as usize, height as usize, 30);
-    let actor = &Actor { picture, width, height, x: 150, y: 0, clip };
+pub fn stamp_name((width, height, clip): (u32, u32, u32)) -> String {
+    format!("stamp {width}x{height}, clip level {clip}")
+}
+
+fn stamp_row(effort: Effort, goals: &mut Goals, room: &Room, stage: &Stage, (width, height, clip): (u32, u32, u32), clear: u8) {
+    let picture = &shape(width as usize, height as usize, 30, clear);
+    let actor = &Actor { picture, width, height, x: 150, y: 0, clip, clear };
     let stamped = |side: Side, frame: &mut [u8]| (0..MANY).for_each(|_| stamp(side, room, frame, &stage.masks, actor));
     let [mut library, mut reference] = SIDES.map(|side| {
         let mut frame = stage.pixels.clone();
@@ -125,26 +141,31 @@ fn stamp_row(effort: Effort, goals: &mut Goals, room: &Room, stage: &Stage, (wid
     assert!(library == reference && library != stage.pixels, "library and reference stamp differently");
     let times =
         best(effort, [&mut || timed(|| stamped(Side::Library, &mut library)), &mut || timed(|| stamped(Side::Reference, &mut reference))]);
-    let name = format!("stamp {width}x{height}, clip level {clip}");
+    let mut name = stamp_name((width, height, clip));
+    if clear != 255 {
+        name += &format!(", {clear}");
+    }
     goals.call(&times, &name);
     let pixels = width * height;
-    println!("{name:<28} {pixels:>9} {:>8.2} {:>7.2}", times[0] / (MANY as u32 * pixels) as f64, times[0] / times[1]);
+    println!("{name:<30} {pixels:>9} {:>8.2} {:>7.2}", times[0] / (MANY as u32 * pixels) as f64, times[0] / times[1]);
 }
 
 pub fn tables(effort: Effort, goals: &mut Goals) {
     println!(
         "Calls on a room, strips under three methods in turn, {STEPS} draws in the history. ns: a pixel of the room. : pass: one unchecked"
     );
-    println!("decode of the room's background and planes. Listing: the record, then header and name of every object.\n");
+    println!("decode of the room's background and planes. Listing: the record, then header and name of every object. Draw: an object in a state with");
+    println!("transparent pixels; with {OTHER}: in a room whose transparent index that is; solid: in a state without.\n");
     println!("{:<9} {:>6} {:>7}  {:<10} {:>9} {:>7} {:>7} {:>7}", "room", "planes", "objects", "call", "us", "ns", ": pass", ": ref");
     ROOMS.iter().for_each(|room| room_calls(effort, goals, *room));
-    println!("\nCalls on the surfaces of a 320x144 room with 4 planes. ns: a pixel of the actor's picture, or a question.\n");
-    println!("{:<28} {:>9} {:>8} {:>7}", "call", "pixels", "ns", ": ref");
+    println!("\nCalls on the surfaces of a 320x144 room with 4 planes. ns: a pixel of the actor's picture, or a question. Stamps leave 255 out; with");
+    println!("{OTHER}, that index.\n");
+    println!("{:<30} {:>9} {:>8} {:>7}", "call", "pixels", "ns", ": ref");
     let room = &Spec::furnished(320, 144, 4, 12).make();
     let stage = &played(room, STEPS);
     hidden_row(effort, goals, room, stage);
-    for actor in [(24, 40, 0), (24, 40, 1), (128, 144, 0), (128, 144, 1)] {
-        stamp_row(effort, goals, room, stage, actor);
+    for actor in ACTORS {
+        [255, OTHER].iter().for_each(|clear| stamp_row(effort, goals, room, stage, actor, *clear));
     }
     println!();
 }

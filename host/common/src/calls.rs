@@ -88,6 +88,7 @@ extern "C" {
         x: i32,
         y: i32,
         clip: u32,
+        clear: u8,
     ) -> u32;
     pub fn kg_start(
         payload: *const u8,

@@ -22,7 +22,7 @@ pub fn hidden(masks: &[u8], w: u32, h: u32, n: u32, clip: u32, x: u32, y: u32) -
     Ok(hides(masks, w, h, n, clip, x, y))
 }
 
-/// An actor's picture: its bytes, its size, its corner and its clip level.
+/// An actor's picture: its bytes, its size, its corner, its clip level and the colour that isn't painted.
 pub struct Actor<'a> {
     pub picture: &'a [u8],
     pub width: u32,
@@ -30,9 +30,11 @@ pub struct Actor<'a> {
     pub x: i32,
     pub y: i32,
     pub clip: u32,
+    pub clear: u8,
 }
 
-/// The stamp: "pixels other than 255, in the frame and not hidden, at signed (x + column, y + row) … the sums exact".
+/// The stamp: "pixels other than 255, in the frame and not hidden, at signed (x + column, y + row) … the sums exact". For 255 it takes "the index as
+/// a byte from the caller" (change request 9).
 pub fn stamp(frame: &mut [u8], masks: &[u8], w: u32, h: u32, n: u32, actor: &Actor) -> u32 {
     let [w, h, n, clip] = [w, h, n, actor.clip].map(|number| number as usize);
     if !sizes_ok(w, h, n) || !(1..=128).contains(&actor.width) || !(1..=200).contains(&actor.height) {
@@ -46,7 +48,8 @@ pub fn stamp(frame: &mut [u8], masks: &[u8], w: u32, h: u32, n: u32, actor: &Act
         for column in 0..width {
             let (x, y) = (actor.x as i64 + column as i64, actor.y as i64 + row as i64);
             let pixel = actor.picture[row * width + column];
-            if pixel != 255 && x >= 0 && x < w as i64 && y >= 0 && y < h as i64 && !hides(masks, w, h, n, clip, x as usize, y as usize) {
+            let inside = x >= 0 && x < w as i64 && y >= 0 && y < h as i64;
+            if pixel != actor.clear && inside && !hides(masks, w, h, n, clip, x as usize, y as usize) {
                 frame[y as usize * w + x as usize] = pixel;
             }
         }

@@ -58,10 +58,11 @@ pub fn strips(bytes: &[u8], room: &Room, im: Block, (width, height): (usize, usi
     let mut strips = Vec::new();
     for body in table::bodies(smap.bytes(bytes), width / 8, 4)? {
         let body = body.expect("every SMAP strip has a body");
-        // "An entry's pixel is transparent if its code is a transparent one and its value is 255".
-        let pixels =
-            strip::pixels(body, height)?.into_iter().map(|pixel| (pixel != 255 || !strip::is_transparent(body[0])).then_some(pixel));
-        strips.push(Strip { pixels: pixels.collect(), planes: vec![] });
+        // "An entry's pixel is transparent if its code is a transparent one and its value is" the room's transparent index, which "replaces 255 in
+        // document 01's painting rule" (change request 9).
+        let shows = |pixel: u8| !strip::is_transparent(body[0]) || pixel != room.clear;
+        let pixels = strip::pixels(body, height)?.into_iter().map(|pixel| shows(pixel).then_some(pixel)).collect();
+        strips.push(Strip { pixels, planes: vec![] });
     }
     for k in 1..=room.n {
         let plane = match first(bytes, im, format!("ZP0{k}").as_bytes()) {

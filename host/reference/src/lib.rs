@@ -57,3 +57,5 @@ mod limb_rows;
 mod rows;
 #[cfg(test)]
 mod session_rows;
+#[cfg(test)]
+mod transparent_rows;

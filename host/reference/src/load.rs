@@ -5,7 +5,7 @@ use crate::room::test;
 pub const RECORD: usize = 16;
 pub const SESSION: usize = 450;
 
-/// The room's record: W, H, N, objects as u16, the transparent index 255, zeros.
+/// The room's record: W, H, N, objects as u16, the transparent index ("The room's record carries it", change request 9), zeros.
 pub fn record(room: &[u8], record: &mut [u8]) -> u32 {
     match test(room, |_| record.len() >= RECORD) {
         Err(number) => number,
@@ -15,7 +15,7 @@ pub fn record(room: &[u8], record: &mut [u8]) -> u32 {
             for (i, number) in [room.w, room.h, room.n, room.objects.len()].into_iter().enumerate() {
                 record[2 * i..2 * i + 2].copy_from_slice(&(number as u16).to_le_bytes());
             }
-            record[8] = 255;
+            record[8] = room.clear;
             0
         }
     }

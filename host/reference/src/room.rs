@@ -3,11 +3,12 @@
 use crate::block::{children, first, root, Block};
 use crate::{mask, sizes_ok, strip, u16_at, NEEDED, SHORT, SIZE, TREE};
 
-/// A room's numbers and its objects' OBCD blocks.
+/// A room's numbers, its transparent index and its objects' OBCD blocks.
 pub struct Room {
     pub w: usize,
     pub h: usize,
     pub n: usize,
+    pub clear: u8,
     pub objects: Vec<Block>,
 }
 
@@ -33,6 +34,27 @@ pub fn needed(bytes: &[u8], parent: Block, tag: &[u8], fields: usize) -> Result<
     first(bytes, parent, tag).filter(|block| block.payload(bytes).len() >= fields).ok_or(NEEDED)
 }
 
+/// "A ROOM may hold a TRNS block, whose first byte is the room's transparent index; without one it is 255. … 2 for an empty TRNS payload"
+/// (change request 9). As of every block that is looked for, it is the first, even where that is empty and another follows.
+fn transparent_index(bytes: &[u8], root: Block) -> Result<u8, u32> {
+    match first(bytes, root, b"TRNS") {
+        Some(trns) => trns.payload(bytes).first().copied().ok_or(NEEDED),
+        None => Ok(255),
+    }
+}
+
+/// Planes 1 to N of an accepted head: "a missing plane is all zero, planes above N aren't looked at".
+fn planes(bytes: &[u8], im00: Block, room: &Room) -> Result<Vec<u8>, u32> {
+    let mut masks = Vec::new();
+    for k in 1..=room.n {
+        match first(bytes, im00, format!("ZP0{k}").as_bytes()) {
+            Some(plane) => masks.extend(mask::plane(plane.bytes(bytes), room.w / 8, room.h)?),
+            None => masks.extend(vec![0; room.w / 8 * room.h]),
+        }
+    }
+    Ok(masks)
+}
+
 /// "Order: 1, 2, 3, 4 for the room; then the background and planes 1 to N". `lent` says whether the call's buffers are long enough.
 pub fn test(bytes: &[u8], lent: impl FnOnce(&Room) -> bool) -> Result<Painted, u32> {
     // 1
@@ -43,6 +65,7 @@ pub fn test(bytes: &[u8], lent: impl FnOnce(&Room) -> bool) -> Result<Painted, u
     let rmih = needed(bytes, rmim, b"RMIH", 2)?;
     let im00 = needed(bytes, rmim, b"IM00", 0)?;
     let smap = needed(bytes, im00, b"SMAP", 0)?;
+    let clear = transparent_index(bytes, root)?;
     let objects = children(bytes, root, b"OBCD");
     for obcd in &objects {
         needed(bytes, *obcd, b"CDHD", 13)?;
@@ -57,18 +80,12 @@ pub fn test(bytes: &[u8], lent: impl FnOnce(&Room) -> bool) -> Result<Painted, u
         return Err(SIZE);
     }
     // 4
-    let room = Room { w, h, n, objects };
+    let room = Room { w, h, n, clear, objects };
     if !lent(&room) {
         return Err(SHORT);
     }
-    // 5 to 8: the background, then the planes; "a missing plane is all zero, planes above N aren't looked at"
+    // 5 to 8: the background, then the planes
     let pixels = strip::picture(smap.bytes(bytes), w, h)?;
-    let mut masks = Vec::new();
-    for k in 1..=n {
-        match first(bytes, im00, format!("ZP0{k}").as_bytes()) {
-            Some(plane) => masks.extend(mask::plane(plane.bytes(bytes), w / 8, h)?),
-            None => masks.extend(vec![0; w / 8 * h]),
-        }
-    }
+    let masks = planes(bytes, im00, &room)?;
     Ok(Painted { room, pixels, masks })
 }

@@ -35,21 +35,33 @@ pub fn questions(b: &mut Comparison, r: &mut Rng) {
     }
 }
 
-fn picture(r: &mut Rng, size: usize) -> Vec<u8> {
-    let holes = r.pick(&[1, 2, 3, 50]);
-    (0..size).map(|_| if r.once_in(holes) { 255 } else { r.byte() }).collect()
+/// The colour that isn't painted: 255 as in a room that says nothing else, 0, or any.
+fn any_clear(r: &mut Rng) -> u8 {
+    match r.below(4) {
+        0 => 255,
+        1 => 0,
+        _ => r.byte(),
+    }
+}
+
+/// A picture with many pixels that aren't painted, many of 255 and of 0.
+fn picture(r: &mut Rng, size: usize, clear: u8) -> Vec<u8> {
+    let (holes, ends) = (r.pick(&[1, 2, 3, 50]), r.pick(&[2, 4, 50]));
+    let pixel = |r: &mut Rng| if r.once_in(ends) { r.pick(&[255, 0]) } else { r.byte() };
+    (0..size).map(|_| if r.once_in(holes) { clear } else { pixel(r) }).collect()
 }
 
 /// A small picture at every offset, under every clip.
 pub fn every_offset(b: &mut Comparison, r: &mut Rng) {
     let (w, h, n) = (8 * r.range(1, 2), r.range(1, 5), r.below(5));
     let (width, height) = (r.range(1, 9), r.range(1, 4));
-    let (frame, masks, picture) = (r.bytes(w * h), r.bytes(n * (w / 8) * h), picture(r, width * height));
+    let (frame, masks, clear) = (r.bytes(w * h), r.bytes(n * (w / 8) * h), any_clear(r));
+    let picture = picture(r, width * height, clear);
     for clip in 0..=n as u32 + 1 {
         for y in -(height as i32) - 1..=h as i32 {
             for x in -(width as i32) - 1..=w as i32 {
-                let actor = Actor { picture: &picture, width: width as u32, height: height as u32, x, y, clip };
-                calls::stamp(b, &frame, &masks, w as u32, h as u32, n as u32, &actor);
+                let actor = Actor { picture: &picture, width: width as u32, height: height as u32, x, y, clip, clear };
+                calls::stamp(b, &frame, &masks, [w as u32, h as u32, n as u32], &actor);
             }
         }
     }
@@ -63,8 +75,10 @@ pub fn stamps(b: &mut Comparison, r: &mut Rng) {
         1 => (r.pick(&[1, 128]), r.pick(&[1, 200])),
         _ => (r.range(1, 12), r.range(1, 12)),
     };
-    let picture = picture(r, width * height);
+    let holes = any_clear(r);
+    let picture = picture(r, width * height, holes);
     for _ in 0..20 {
+        let clear = if r.once_in(4) { any_clear(r) } else { holes };
         let (frame, masks) = (lent(r, w * h), lent(r, n * (w / 8) * h));
         let shown = match r.below(14) {
             0 => &picture[..picture.len() - 1],
@@ -80,6 +94,6 @@ pub fn stamps(b: &mut Comparison, r: &mut Rng) {
         let (width, height) = (number(width, &WIDTH), number(height, &H));
         let clip = r.below(6) as u32;
         let clip = r.wild(clip);
-        calls::stamp(b, &frame, &masks, w, h, n, &Actor { picture: shown, width, height, x, y, clip });
+        calls::stamp(b, &frame, &masks, [w, h, n], &Actor { picture: shown, width, height, x, y, clip, clear });
     }
 }

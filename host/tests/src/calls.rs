@@ -16,9 +16,12 @@ fn word(answer: Result<usize, u32>) -> (u32, u64) {
     }
 }
 
-pub fn record(b: &mut Comparison, room: &[u8], record: &[u8]) {
+/// The record: its number, and its bytes afterwards.
+pub fn record(b: &mut Comparison, room: &[u8], record: &[u8]) -> (u32, Vec<u8>) {
     let library = |p: &[*mut u8]| unsafe { kg_record(p[0], room.len(), p[1], record.len()) as u64 };
-    b.case("record", &[], &[("room", room), ("record", record)], library, |after| number(loads::record(room, &mut after[1])));
+    let buffers = [("room", room), ("record", record)];
+    let (answer, _, mut after) = b.case("record", &[], &buffers, library, |after| number(loads::record(room, &mut after[1])));
+    (answer, after.pop().unwrap())
 }
 
 /// The load: its number, and session, pixels and masks afterwards.
@@ -91,26 +94,30 @@ pub fn turn(b: &mut Comparison, turn: Turn, room: &[u8], lent: &[Vec<u8>; 3]) ->
     (answer, surfaces(after))
 }
 
-pub fn object_at(b: &mut Comparison, room: &[u8], session: &[u8], flags: &[u8], x: u32, y: u32) {
+/// The object under a point: the call's number, and the object's.
+pub fn object_at(b: &mut Comparison, room: &[u8], session: &[u8], flags: &[u8], x: u32, y: u32) -> (u32, usize) {
     let library = |p: &[*mut u8]| unsafe { kg_object_at(p[0], room.len(), p[1], session.len(), p[2], flags.len(), x, y) };
     let buffers = [("room", room), ("session", session), ("flags", flags)];
     let numbers = [x, y].map(i64::from);
-    b.case("object_at", &numbers, &buffers, library, |_| word(reference::point::object_at(room, session, flags, x, y)));
+    let (number, answer, _) =
+        b.case("object_at", &numbers, &buffers, library, |_| word(reference::point::object_at(room, session, flags, x, y)));
+    (number, (answer >> 32) as usize)
 }
 
-pub fn header(b: &mut Comparison, room: &[u8], header: &[u8], which: u32) {
+pub fn header(b: &mut Comparison, room: &[u8], header: &[u8], which: u32) -> u32 {
     let library = |p: &[*mut u8]| unsafe { kg_header(p[0], room.len(), p[1], header.len(), which) as u64 };
     let buffers = [("room", room), ("header", header)];
-    b.case("header", &[which as i64], &buffers, library, |after| number(object::header(room, &mut after[1], which)));
+    b.case("header", &[which as i64], &buffers, library, |after| number(object::header(room, &mut after[1], which))).0
 }
 
-pub fn name(b: &mut Comparison, room: &[u8], which: u32) {
+/// The name and its number: both calls.
+pub fn name(b: &mut Comparison, room: &[u8], which: u32) -> u32 {
     let (answer, start, length) = object::name(room, which);
     let library = |p: &[*mut u8]| unsafe { kg_name(p[0], room.len(), which) };
     let place = start as u64 | (length as u64) << 32;
     b.case("name", &[which as i64], &[("room", room)], library, |_| (answer, place));
     let library = |p: &[*mut u8]| unsafe { kg_name_number(p[0], room.len(), which) as u64 };
-    b.case("name_number", &[which as i64], &[("room", room)], library, |_| number(answer));
+    b.case("name_number", &[which as i64], &[("room", room)], library, |_| number(answer)).0
 }
 
 pub fn hidden(b: &mut Comparison, masks: &[u8], [w, h, n]: [u32; 3], clip: u32, (x, y): (u32, u32)) {
@@ -119,14 +126,16 @@ pub fn hidden(b: &mut Comparison, masks: &[u8], [w, h, n]: [u32; 3], clip: u32, 
     b.case("hidden", &numbers, &[("masks", masks)], library, |_| word(actor::hidden(masks, w, h, n, clip, x, y).map(usize::from)));
 }
 
-pub fn stamp(b: &mut Comparison, frame: &[u8], masks: &[u8], w: u32, h: u32, n: u32, a: &actor::Actor) {
+/// A stamp: its number, and the frame after it.
+pub fn stamp(b: &mut Comparison, frame: &[u8], masks: &[u8], [w, h, n]: [u32; 3], a: &actor::Actor) -> (u32, Vec<u8>) {
     let library = |p: &[*mut u8]| unsafe {
         let (width, height) = (a.width, a.height);
-        kg_stamp(p[0], frame.len(), p[1], masks.len(), p[2], a.picture.len(), w, h, n, width, height, a.x, a.y, a.clip) as u64
+        kg_stamp(p[0], frame.len(), p[1], masks.len(), p[2], a.picture.len(), w, h, n, width, height, a.x, a.y, a.clip, a.clear) as u64
     };
-    let numbers = [w as i64, h as i64, n as i64, a.width as i64, a.height as i64, a.x as i64, a.y as i64, a.clip as i64];
+    let numbers = [w as i64, h as i64, n as i64, a.width as i64, a.height as i64, a.x as i64, a.y as i64, a.clip as i64, a.clear as i64];
     let buffers = [("frame", frame), ("masks", masks), ("picture", a.picture)];
-    b.case("stamp", &numbers, &buffers, library, |after| number(actor::stamp(&mut after[0], masks, w, h, n, a)));
+    let (answer, _, after) = b.case("stamp", &numbers, &buffers, library, |after| number(actor::stamp(&mut after[0], masks, w, h, n, a)));
+    (answer, after.into_iter().next().expect("a frame"))
 }
 
 /// Where a costume's offset table, with how many offsets, and its stream stand, as the caller gives it.

@@ -6,6 +6,7 @@ use crate::damage;
 use crate::pair_count::{cases, Case};
 use crate::pair_rooms::Made;
 use crate::pairs::{self, Difference, Pair};
+use crate::planned::Case as _;
 use crate::rng::Rng;
 use crate::room_scenes::lent;
 use crate::rooms::{self, Plan};
@@ -90,9 +91,9 @@ fn redraw(r: &mut Rng, plan: &mut Plan) {
     }
 }
 
-/// Another N, a plane's block gone, or an object changed.
+/// Another N, a plane's block gone, another transparent index, or an object changed.
 fn rearrange(r: &mut Rng, plan: &mut Plan) {
-    match r.below(3) {
+    match r.below(4) {
         0 => {
             let n = r.below(5) as u8;
             if let Some(Node { body: Body::Bytes(bytes), .. }) = plan.root.find(&[b"RMIM", b"RMIH"]) {
@@ -103,6 +104,7 @@ fn rearrange(r: &mut Rng, plan: &mut Plan) {
             let tag = r.pick(&[b"ZP01", b"ZP02", b"ZP03", b"ZP04"]);
             plan.root.find(&[b"RMIM", b"IM00"]).expect("an image").kids().retain(|kid| kid.tag != *tag);
         }
+        2 => rooms::change_trns(r, plan),
         _ => stages::change(r, plan),
     }
 }

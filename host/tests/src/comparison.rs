@@ -1,9 +1,11 @@
 //! Runs one call on the library and on the reference, compares every byte, and keeps the count.
 
+use crate::clear_count::{self, Case};
 use crate::end_count::EndCount;
 use crate::lent::Slot;
 use crate::limbs::{self, Kind, Question};
 use crate::pair_count::PairCount;
+use crate::planned::Count;
 use crate::rng::Rng;
 use crate::shapes::{shapes, Shape};
 use std::collections::BTreeMap;
@@ -71,6 +73,8 @@ pub struct Comparison {
     pub ends: EndCount,
     /// The same for the deliberate pairs of rooms.
     pub pairs: PairCount,
+    /// The same for the deliberate rooms and stamps with a transparent index.
+    pub clears: Count<Case>,
     /// Whether a call's first buffer, its room, ends with its page; else it may stand anywhere. A scene begins without it.
     pub room_at_page_end: bool,
     differences: BTreeMap<String, u64>,
@@ -91,6 +95,7 @@ impl Comparison {
             limbs: limbs::cases().map(|case| (case, 0)).collect(),
             ends: EndCount::default(),
             pairs: PairCount::default(),
+            clears: Count::default(),
             room_at_page_end: false,
             differences: BTreeMap::new(),
         }
@@ -230,6 +235,12 @@ impl Comparison {
         missing.map(|((kind, question), _)| format!("limb with {}, {question:?}", kind.name())).collect()
     }
 
+    /// The table of rooms and stamps with a transparent index, and what wasn't reached of it.
+    fn clears(&self) -> Vec<String> {
+        println!("transparent indexes");
+        self.clears.report(&clear_count::planned())
+    }
+
     /// The tables, and whether all is well; a full run must have reached everything.
     pub fn report(&self, full: bool) -> bool {
         let mut missing = self.numbers();
@@ -239,6 +250,7 @@ impl Comparison {
             missing.extend(self.ends.report());
             missing.extend(self.compared());
             missing.extend(self.pairs.report());
+            missing.extend(self.clears());
         }
         if full && !missing.is_empty() {
             println!("never reached: {missing:?}");

@@ -57,8 +57,11 @@ pub fn tree(r: &mut Rng, plan: &mut Plan) {
         3 => deep(r, plan),
         4 => overlapped(r, plan),
         5 => {
-            let tag = if r.once_in(2) { *r.pick(&OTHER) } else { *r.pick(&CONTAINERS) };
-            any_node(r, plan).tag = tag;
+            any_node(r, plan).tag = match r.below(8) {
+                0 => *b"TRNS",
+                1..=4 => *r.pick(&OTHER),
+                _ => *r.pick(&CONTAINERS),
+            };
         }
         _ => {
             let node = any_node(r, plan);
@@ -71,7 +74,9 @@ pub fn tree(r: &mut Rng, plan: &mut Plan) {
 /// A needed block: the tags from the room to its parent, its own, the bytes of its fixed fields.
 type Needed = (&'static [&'static [u8; 4]], &'static [u8; 4], usize);
 
-const NEEDED: [Needed; 7] = [
+/// TRNS, the first, isn't needed; but where there is one, it needs its first byte.
+pub const NEEDED: [Needed; 8] = [
+    (&[], b"TRNS", 1),
     (&[], b"RMHD", 6),
     (&[], b"RMIM", 0),
     (&[b"RMIM"], b"RMIH", 2),

@@ -2,6 +2,7 @@
 
 use crate::comparison::Place;
 use crate::ends::{codes, ends_of, method, operations, End, Last, Method, MOST, SHORT};
+use crate::planned::{self, Count};
 use crate::strips::Operation;
 use std::collections::BTreeMap;
 use std::ops::RangeInclusive;
@@ -50,7 +51,20 @@ fn change_name(change: i32) -> String {
     }
 }
 
-impl Case {
+impl planned::Case for Case {
+    const GROUPS: &'static [&'static str] =
+        &["ends, changes and spots", "cuts inside an operation", "first bytes modulo 8, in room and memory", "lengths of short bodies"];
+    const ALL: &'static str = "ends of bodies";
+
+    fn group(&self) -> usize {
+        match self {
+            Case::Read { .. } => 0,
+            Case::Broken { .. } => 1,
+            Case::Begun { .. } => 2,
+            Case::Length { .. } => 3,
+        }
+    }
+
     fn name(&self) -> String {
         match self {
             Case::Read { end, change, spot } => format!("{}, {}, {spot:?}", end.name(), change_name(*change)),
@@ -60,18 +74,6 @@ impl Case {
             }
             Case::Length { method, bytes } => format!("{method:?}, {bytes} bytes"),
         }
-    }
-}
-
-const KINDS: [&str; 4] =
-    ["ends, changes and spots", "cuts inside an operation", "first bytes modulo 8, in room and memory", "lengths of short bodies"];
-
-fn kind(case: &Case) -> usize {
-    match case {
-        Case::Read { .. } => 0,
-        Case::Broken { .. } => 1,
-        Case::Begun { .. } => 2,
-        Case::Length { .. } => 3,
     }
 }
 
@@ -103,18 +105,18 @@ fn planned() -> Vec<Case> {
 
 #[derive(Default)]
 pub struct EndCount {
-    counts: BTreeMap<Case, u64>,
+    count: Count<Case>,
 }
 
 impl EndCount {
     pub fn reached(&mut self, case: Case) {
-        *self.counts.entry(case).or_default() += 1;
+        self.count.reached(case);
     }
 
     /// How often bodies were read: by change, place and method, runs past the end apart.
     fn sums(&self) -> BTreeMap<i32, [[u64; 4]; 2]> {
         let mut sums: BTreeMap<i32, [[u64; 4]; 2]> = BTreeMap::new();
-        for (case, count) in &self.counts {
+        for (case, count) in &self.count.counts {
             if let Case::Read { end, change, spot } = case {
                 let column = if end.last == Last::Past { 3 } else { method(end.code) as usize };
                 sums.entry(*change).or_default()[spot.place as usize][column] += count;
@@ -137,16 +139,6 @@ impl EndCount {
     /// Prints the tables; answers the planned cases that weren't reached, the first of them by name.
     pub fn report(&self) -> Vec<String> {
         self.print_changes();
-        let planned = planned();
-        for (i, name) in KINDS.iter().enumerate() {
-            let counts = planned.iter().filter(|case| kind(case) == i).map(|case| self.counts.get(case).copied().unwrap_or(0));
-            let (cases, least) = counts.fold((0, u64::MAX), |(cases, least), count| (cases + 1, least.min(count)));
-            println!("{name:<42}{cases:>8} planned, each reached {least} times or more");
-        }
-        let mut missing = planned.iter().filter(|case| !self.counts.contains_key(case));
-        let mut names: Vec<String> = missing.by_ref().take(8).map(Case::name).collect();
-        let more = missing.count();
-        names.extend((more > 0).then(|| format!("{more} more ends of bodies")));
-        names
+        self.count.report(&planned())
     }
 }

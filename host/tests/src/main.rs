@@ -1,6 +1,6 @@
 //! Differential tests: the library's C interface against the reference.
 //!
-//!     tests [SEEDS]          seeds 0 to SEEDS − 1, the planned ends of bodies and pairs of rooms, then the tables
+//!     tests [SEEDS]          seeds 0 to SEEDS − 1, the planned ends of bodies, pairs of rooms and transparent indexes, then the tables
 //!     tests soak SECONDS     new seeds until the time is over, and the same
 //!     tests seed SEED        one seed again
 //!     tests room FILE        the calls on a room from a file
@@ -8,6 +8,13 @@
 
 mod actor_scenes;
 mod calls;
+mod clear_blocks;
+mod clear_calls;
+mod clear_count;
+mod clear_faults;
+mod clear_images;
+mod clear_rooms;
+mod clear_scenes;
 mod compare_scenes;
 mod comparison;
 mod costume_scenes;
@@ -21,6 +28,7 @@ mod maker;
 mod pair_count;
 mod pair_rooms;
 mod pairs;
+mod planned;
 mod point_scenes;
 mod recode;
 mod rng;
@@ -46,10 +54,14 @@ const ENDS: u64 = 1 << 63;
 /// A seed from here on is a planned pair of rooms. A full run takes each of them.
 const PAIRS: u64 = 3 << 62;
 
+/// A seed from here on is a planned scene with a transparent index. A full run takes each of them.
+const CLEARS: u64 = 7 << 61;
+
 fn run(b: &mut Comparison, seed: u64) {
     let mut r = b.scene(seed);
     let r = &mut r;
     match seed % 40 {
+        _ if seed >= CLEARS => clear_scenes::planned(b, r, (seed - CLEARS) as usize),
         _ if seed >= PAIRS => compare_scenes::planned(b, r, (seed - PAIRS) as usize),
         _ if seed >= ENDS => end_scenes::planned(b, r, (seed - ENDS) as usize),
         0..=5 => room_scenes::good(b, r),
@@ -62,6 +74,7 @@ fn run(b: &mut Comparison, seed: u64) {
         19 => room_scenes::arbitrary(b, r),
         20 if r.once_in(8) => room_scenes::every_cut(b, r),
         20 if r.once_in(8) => end_scenes::any_end(b, r),
+        20 if r.once_in(4) => clear_scenes::any(b, r),
         21 if r.once_in(40) => room_scenes::at_the_limit(b, r),
         21 if r.once_in(2) => shape_scenes::every_shape(b, r),
         20 | 21 => room_scenes::damaged(b, r),
@@ -138,6 +151,7 @@ fn main() {
     if full {
         (ENDS..ENDS + ends::codes().len() as u64).for_each(|seed| run(b, seed));
         (PAIRS..PAIRS + pairs::planned().len() as u64).for_each(|seed| run(b, seed));
+        (CLEARS..CLEARS + clear_count::scenes().len() as u64).for_each(|seed| run(b, seed));
     }
     if !b.report(full) {
         std::process::exit(1);

@@ -2,8 +2,8 @@
 //! out fails (comparison.rs).
 
 use crate::pairs::{planned as pairs, Pair};
+use crate::planned::{self, Count};
 use crate::rng::Rng;
-use std::collections::BTreeMap;
 
 /// How long the lent list is.
 #[derive(Clone, Copy, Debug, PartialEq, Eq, PartialOrd, Ord)]
@@ -54,8 +54,37 @@ pub struct Case {
     pub length: Length,
 }
 
-impl Case {
-    pub fn name(&self) -> String {
+impl planned::Case for Case {
+    const GROUPS: &'static [&'static str] = &[
+        "the same bytes",
+        "the same picture under other codes",
+        "the same picture among other blocks",
+        "pixels of a strip",
+        "planes of a strip",
+        "several strips",
+        "planes undeclared, missing, above N",
+        "the smallest and the largest rooms",
+        "refused rooms and other sizes",
+        "other transparent indexes",
+    ];
+    const ALL: &'static str = "comparisons of deliberate pairs";
+
+    fn group(&self) -> usize {
+        match self.pair {
+            Pair::Itself | Pair::Copy => 0,
+            Pair::Codes { .. } | Pair::Writers => 1,
+            Pair::Framed | Pair::Object => 2,
+            Pair::Pixel { .. } | Pair::Pixels { .. } => 3,
+            Pair::Bit { .. } | Pair::Planes { .. } => 4,
+            Pair::Strips { .. } => 5,
+            Pair::Declared { .. } | Pair::Missing { .. } | Pair::Above { .. } => 6,
+            Pair::Sized { .. } => 7,
+            Pair::Refused { .. } => 8,
+            Pair::Clear { .. } => 9,
+        }
+    }
+
+    fn name(&self) -> String {
         format!("{:?}{}, list {:?}", self.pair, if self.turned { " turned" } else { "" }, self.length)
     }
 }
@@ -72,55 +101,19 @@ pub fn cases(pair: Pair) -> Vec<Case> {
     lengths.iter().flat_map(|length| turns.iter().map(move |turned| Case { pair, turned: *turned, length: *length })).collect()
 }
 
-const GROUPS: [&str; 9] = [
-    "the same bytes",
-    "the same picture under other codes",
-    "the same picture among other blocks",
-    "pixels of a strip",
-    "planes of a strip",
-    "several strips",
-    "planes undeclared, missing, above N",
-    "the smallest and the largest rooms",
-    "refused rooms and other sizes",
-];
-
-fn group(pair: Pair) -> usize {
-    match pair {
-        Pair::Itself | Pair::Copy => 0,
-        Pair::Codes { .. } | Pair::Writers => 1,
-        Pair::Framed | Pair::Object => 2,
-        Pair::Pixel { .. } | Pair::Pixels { .. } => 3,
-        Pair::Bit { .. } | Pair::Planes { .. } => 4,
-        Pair::Strips { .. } => 5,
-        Pair::Declared { .. } | Pair::Missing { .. } | Pair::Above { .. } => 6,
-        Pair::Sized { .. } => 7,
-        Pair::Refused { .. } => 8,
-    }
-}
-
 #[derive(Default)]
 pub struct PairCount {
-    counts: BTreeMap<Case, u64>,
+    count: Count<Case>,
 }
 
 impl PairCount {
     pub fn reached(&mut self, case: Case) {
-        *self.counts.entry(case).or_default() += 1;
+        self.count.reached(case);
     }
 
     /// Prints the table; answers the planned cases that weren't reached, the first of them by name.
     pub fn report(&self) -> Vec<String> {
-        let planned: Vec<Case> = pairs().into_iter().flat_map(cases).collect();
         println!("deliberate pairs of rooms");
-        for (i, name) in GROUPS.iter().enumerate() {
-            let counts = planned.iter().filter(|case| group(case.pair) == i).map(|case| self.counts.get(case).copied().unwrap_or(0));
-            let (cases, least) = counts.fold((0, u64::MAX), |(cases, least), count| (cases + 1, least.min(count)));
-            println!("{name:<42}{cases:>8} planned, each reached {least} times or more");
-        }
-        let mut missing = planned.iter().filter(|case| !self.counts.contains_key(case));
-        let mut names: Vec<String> = missing.by_ref().take(8).map(Case::name).collect();
-        let more = missing.count();
-        names.extend((more > 0).then(|| format!("{more} more comparisons of deliberate pairs")));
-        names
+        self.count.report(&pairs().into_iter().flat_map(cases).collect::<Vec<Case>>())
     }
 }

@@ -200,6 +200,32 @@ pub fn sized(r: &mut Rng, size: (usize, usize), differs: bool) -> Made {
     changed_strips(r, &picture, &strips)
 }
 
+/// A room of this picture with this transparent index.
+fn with_index(r: &mut Rng, picture: &Picture, clear: Option<u8>) -> Vec<u8> {
+    let mut plan = picture.room(r);
+    let kids = plan.root.kids();
+    kids.retain(|kid| &kid.tag != b"TRNS");
+    let at = r.below(kids.len() + 1);
+    kids.splice(at..at, clear.map(|clear| leaf(b"TRNS", vec![clear])));
+    plan.root.write()
+}
+
+/// "Only decoded content counts": the index is none, and a pixel of it is one like others.
+pub fn clears(r: &mut Rng, indexes: [Option<u8>; 2], pixels: bool) -> Made {
+    let n = r.below(5);
+    let picture = any_picture(r, n);
+    let (s, w, h) = (r.below(picture.w / 8), picture.w, picture.h);
+    let mut pictures = [picture.clone(), picture];
+    let mut places: Vec<usize> = (0..8 * h).map(|i| i / 8 * w + 8 * s + i % 8).collect();
+    r.shuffle(&mut places);
+    places.truncate(if pixels { r.range(1, 8 * h) } else { 0 });
+    for (picture, clear) in pictures.iter_mut().zip(indexes) {
+        places.iter().for_each(|at| picture.pixels[*at] = clear.unwrap_or(255));
+    }
+    let [a, b] = [0, 1].map(|i| with_index(r, &pictures[i], indexes[i]));
+    Made { a, b, wanted: Ok(if pixels { vec![(s, places.len(), 0)] } else { vec![] }) }
+}
+
 /// A room of this size that is refused with this number, which the record gives too.
 fn bad_room(r: &mut Rng, size: (usize, usize), number: u32) -> Vec<u8> {
     let n = r.below(5);

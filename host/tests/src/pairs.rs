@@ -65,7 +65,12 @@ pub enum Pair {
     Sized { w: usize, h: usize, differs: bool },
     /// Rooms that are refused with these numbers, 0 for a good one, of the same size or not.
     Refused { a: u32, b: u32, apart: Apart },
+    /// Rooms of these transparent indexes: the same picture, or pixels that are of the one index here and of the other there.
+    Clear { a: Option<u8>, b: Option<u8>, pixels: bool },
 }
+
+/// Transparent indexes; the first one is 255 too.
+const CLEARS: [Option<u8>; 4] = [None, Some(255), Some(0), Some(7)];
 
 /// The numbers that a room alone can be refused with, 4 left out, and 0.
 const ALONE: [u32; 8] = [0, 1, 2, 3, 5, 6, 7, 8];
@@ -100,6 +105,10 @@ pub fn planned() -> Vec<Pair> {
     pairs.extend([Apart::Height, Apart::Both, Apart::Area].map(|apart| Pair::Refused { a: 0, b: 0, apart }));
     pairs.extend(refused.clone().map(|(a, b)| Pair::Refused { a, b, apart: Apart::Width }));
     pairs.extend(refused.skip(1).map(|(a, b)| Pair::Refused { a, b, apart: Apart::No }));
+    let clears = (0..4).flat_map(|i| CLEARS[i..].iter().map(move |b| (CLEARS[i], *b)));
+    pairs.extend(clears.clone().map(|(a, b)| Pair::Clear { a, b, pixels: false }));
+    let other = |(a, b): &(Option<u8>, Option<u8>)| a.unwrap_or(255) != b.unwrap_or(255);
+    pairs.extend(clears.filter(other).map(|(a, b)| Pair::Clear { a, b, pixels: true }));
     pairs
 }
 
@@ -112,6 +121,7 @@ impl Pair {
             Pair::Declared { set, .. } | Pair::Missing { set, .. } => set,
             Pair::Above { other, .. } => other == Other::Set,
             Pair::Sized { differs, .. } => differs,
+            Pair::Clear { pixels, .. } => pixels,
         }
     }
 
@@ -132,6 +142,7 @@ impl Pair {
             Pair::Above { k, other, rows } => rooms::above(r, k, other, rows),
             Pair::Sized { w, h, differs } => rooms::sized(r, (w, h), differs),
             Pair::Refused { a, b, apart } => rooms::refused(r, a, b, apart),
+            Pair::Clear { a, b, pixels } => rooms::clears(r, [a, b], pixels),
         }
     }
 }

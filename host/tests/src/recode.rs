@@ -46,7 +46,7 @@ fn choices(r: &mut Rng, code: u8, colour: u8, step: u8, left: &[u8]) -> Vec<Choi
 }
 
 /// A body of 8 × h pixels, given by rows; none where the code has no operation for one of them.
-fn pixel_body(r: &mut Rng, code: u8, pixels: &[u8]) -> Option<Vec<u8>> {
+pub fn pixel_body(r: &mut Rng, code: u8, pixels: &[u8]) -> Option<Vec<u8>> {
     if code == 1 {
         return Some([&[1], pixels].concat());
     }
@@ -125,6 +125,11 @@ pub struct Picture {
 }
 
 impl Picture {
+    /// The picture of these pixels and planes.
+    pub fn of(w: usize, h: usize, pixels: Vec<u8>, planes: Vec<Vec<u8>>) -> Picture {
+        Picture { w, h, colours: 256, pixels, planes }
+    }
+
     /// Any picture. Equal and neighbouring pixels are common, so that every operation has its turn; so are equal rows.
     pub fn any(r: &mut Rng, (w, h): (usize, usize), n: usize, colours: usize) -> Picture {
         let mut last = r.below(colours);
@@ -204,7 +209,7 @@ impl Picture {
     }
 
     /// SMAP and the planes in any order. A plane of zero rows is often missing.
-    fn image(&self, r: &mut Rng, code: impl Fn(&mut Rng, usize) -> u8) -> Vec<Node> {
+    pub fn image(&self, r: &mut Rng, code: impl Fn(&mut Rng, usize) -> u8) -> Vec<Node> {
         let mut image = vec![self.smap(r, code)];
         for k in 1..=self.planes.len() {
             if self.planes[k - 1].iter().any(|row| *row != 0) || r.once_in(2) {

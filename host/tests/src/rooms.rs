@@ -16,6 +16,14 @@ impl Plan {
     pub fn objects(&mut self) -> usize {
         self.root.kids().iter().filter(|kid| &kid.tag == b"OBCD").count()
     }
+
+    /// The transparent index, as the room was made.
+    pub fn clear(&mut self) -> u8 {
+        match self.root.find(&[b"TRNS"]) {
+            Some(Node { body: Body::Bytes(bytes), .. }) => bytes.first().copied().unwrap_or(255),
+            _ => 255,
+        }
+    }
 }
 
 pub fn sizes(r: &mut Rng) -> (usize, usize) {
@@ -28,8 +36,9 @@ pub fn sizes(r: &mut Rng) -> (usize, usize) {
     }
 }
 
+/// Tags that are passed over, wherever they stand.
 pub const OTHER: [&[u8; 4]; 14] =
-    [b"CLUT", b"TRNS", b"CYCL", b"SCAL", b"BOXD", b"IM0A", b"IM/0", b"IM:0", b"IM0:", b"IM0/", b"Im00", b"ZP05", b"ZP00", b"\0\xFF\0\0"];
+    [b"CLUT", b"TRNs", b"CYCL", b"SCAL", b"BOXD", b"IM0A", b"IM/0", b"IM:0", b"IM0:", b"IM0/", b"Im00", b"ZP05", b"ZP00", b"\0\xFF\0\0"];
 pub const CONTAINERS: [&[u8; 4]; 9] = [b"ROOM", b"RMIM", b"OBIM", b"OBCD", b"IM00", b"IM01", b"IM09", b"IM90", b"IM99"];
 
 fn some_bytes(r: &mut Rng, most: usize) -> Vec<u8> {
@@ -41,10 +50,19 @@ fn other(r: &mut Rng) -> Node {
     leaf(r.pick(&OTHER), some_bytes(r, 12))
 }
 
+/// The same for a place that isn't directly under ROOM: there a TRNS block is passed over too, an empty one as well.
+fn other_within(r: &mut Rng) -> Node {
+    if r.once_in(6) {
+        leaf(b"TRNS", some_bytes(r, 2))
+    } else {
+        other(r)
+    }
+}
+
 /// Any tree of containers, its deepest block `levels` below its own top (1 is a block alone).
 pub fn nest(r: &mut Rng, levels: usize) -> Node {
     if levels == 1 {
-        return if r.once_in(2) { other(r) } else { container(r.pick(&CONTAINERS), vec![]) };
+        return if r.once_in(2) { other_within(r) } else { container(r.pick(&CONTAINERS), vec![]) };
     }
     let mut kids = vec![nest(r, levels - 1)];
     for _ in 0..r.below(3) {
@@ -55,12 +73,14 @@ pub fn nest(r: &mut Rng, levels: usize) -> Node {
     container(r.pick(&CONTAINERS), kids)
 }
 
-/// A nest that may stand at `depth`; no OBCD or OBIM at depth 2, where they count.
+/// A nest that may stand at `depth`; no OBCD, OBIM or TRNS at depth 2, where they count.
 fn harmless(r: &mut Rng, depth: usize) -> Node {
     let levels = r.range(1, 7 - depth);
     let mut node = nest(r, levels);
-    if depth == 2 && matches!(&node.body, Body::Kids(_)) {
-        node.tag = *r.pick(&[b"ROOM", b"IM00", b"IM42"]);
+    match &node.body {
+        Body::Kids(_) if depth == 2 => node.tag = *r.pick(&[b"ROOM", b"IM00", b"IM42"]),
+        Body::Bytes(_) if depth == 2 => node.tag = *r.pick(&OTHER),
+        _ => (),
     }
     node
 }
@@ -175,21 +195,68 @@ pub fn object_of(r: &mut Rng, width: usize, h: usize, state: Node) -> [Node; 2] 
     [obcd(r, 7), container(b"OBIM", vec![imhd, state])]
 }
 
-/// A good room of these sizes.
-pub fn room_of(r: &mut Rng, w: usize, h: usize, n: usize) -> Plan {
-    let numbers = r.below(70_000) % 65_536;
+/// A transparent index: any byte, 255 as without a block, 0, one that every code gives, or a colour of the background.
+fn any_clear(r: &mut Rng, plan: &mut Plan) -> u8 {
+    let colour = match plan.root.find(&[b"RMIM", b"IM00", b"SMAP"]) {
+        Some(Node { body: Body::Strips(strips), .. }) => r.pick(&strips.bodies).and_then(|body| body.get(1).copied()),
+        _ => None,
+    };
+    match r.below(6) {
+        0 => 255,
+        1 => 0,
+        2 => r.below(16) as u8,
+        3 => colour.unwrap_or(0),
+        _ => r.byte(),
+    }
+}
+
+/// A TRNS block at any place of the room that has none. It is the first; those behind it, empty ones too, aren't looked at.
+fn put_trns(r: &mut Rng, plan: &mut Plan) {
+    let clear = any_clear(r, plan);
+    let (block, kids) = (leaf(b"TRNS", with_extra(r, vec![clear])), plan.root.kids());
+    let at = r.below(kids.len() + 1);
+    kids.insert(at, block);
+    while r.once_in(6) {
+        let behind = r.range(at + 1, kids.len());
+        kids.insert(behind, leaf(b"TRNS", some_bytes(r, 2)));
+    }
+}
+
+/// Another transparent index, or none; now and then an empty block, which is refused.
+pub fn change_trns(r: &mut Rng, plan: &mut Plan) {
+    plan.root.kids().retain(|kid| &kid.tag != b"TRNS");
+    if !r.once_in(4) {
+        put_trns(r, plan);
+    }
+    if r.once_in(8) {
+        let (kids, empty) = (plan.root.kids(), leaf(b"TRNS", vec![]));
+        let at = r.below(kids.len() + 1);
+        kids.insert(at, empty);
+    }
+}
+
+/// RMIM with RMIH and the image, in any order; second ones behind them aren't looked at.
+fn rmim(r: &mut Rng, w: usize, h: usize, n: usize) -> Node {
     let rmih = u16s(&[n]);
-    let mut rmim = vec![leaf(b"RMIH", with_extra(r, rmih)), image(r, w, h, n)];
-    r.shuffle(&mut rmim);
+    let mut kids = vec![leaf(b"RMIH", with_extra(r, rmih)), image(r, w, h, n)];
+    if r.once_in(4) {
+        kids.push(other_within(r));
+    }
+    r.shuffle(&mut kids);
     if r.once_in(6) {
-        rmim.push(container(b"IM00", vec![other(r)]));
-        rmim.push(leaf(b"RMIH", some_bytes(r, 3)));
+        kids.push(container(b"IM00", vec![other_within(r)]));
+        kids.push(leaf(b"RMIH", some_bytes(r, 3)));
     }
     if r.once_in(6) {
-        rmim.push(container(b"IM01", vec![harmless(r, 4)]));
+        kids.push(container(b"IM01", vec![harmless(r, 4)]));
     }
-    let rmhd = u16s(&[w, h, numbers]);
-    let mut kids = vec![leaf(b"RMHD", with_extra(r, rmhd)), container(b"RMIM", rmim)];
+    container(b"RMIM", kids)
+}
+
+/// A good room of these sizes, half of them with a transparent index of their own.
+pub fn room_of(r: &mut Rng, w: usize, h: usize, n: usize) -> Plan {
+    let rmhd = u16s(&[w, h, r.below(70_000) % 65_536]);
+    let mut kids = vec![leaf(b"RMHD", with_extra(r, rmhd)), rmim(r, w, h, n)];
     let objects = match r.below(60) {
         0 => r.range(120, 128),
         1..=20 => 0,
@@ -212,9 +279,13 @@ pub fn room_of(r: &mut Rng, w: usize, h: usize, n: usize) -> Plan {
     r.shuffle(&mut kids);
     if r.once_in(6) {
         kids.push(leaf(b"RMHD", some_bytes(r, 7)));
-        kids.push(container(b"RMIM", vec![other(r)]));
+        kids.push(container(b"RMIM", vec![other_within(r)]));
     }
-    Plan { w, h, n, root: container(b"ROOM", kids) }
+    let mut plan = Plan { w, h, n, root: container(b"ROOM", kids) };
+    if r.once_in(2) {
+        put_trns(r, &mut plan);
+    }
+    plan
 }
 
 /// The same without objects, for a scene that puts its own there.

@@ -5,7 +5,7 @@ use crate::comparison::Comparison;
 use crate::maker::{grown, listed, some_calls, spoil, written, Maker};
 use crate::rng::Rng;
 use crate::room_scenes::lent;
-use crate::rooms::Plan;
+use crate::rooms::{self, Plan};
 use crate::{damage, stages};
 use reference::step::{Scene, Step};
 use reference::{painting, session};
@@ -115,10 +115,11 @@ pub fn changed_rooms(b: &mut Comparison, r: &mut Rng) {
     for _ in 0..if maker.w * maker.h > 20_000 { 2 } else { 8 } {
         let mut other = Plan { w: plan.w, h: plan.h, n: plan.n, root: plan.root.clone() };
         let kinds = [damage::tree, damage::needed, damage::sizes, damage::table, damage::body];
-        match r.below(8) {
+        match r.below(9) {
             0..=3 => (0..r.range(1, 3)).for_each(|_| stages::change(r, &mut other)),
             4 | 5 => r.pick(&kinds)(r, &mut other),
             6 => other = stages::stage(r),
+            7 => rooms::change_trns(r, &mut other),
             _ => (),
         }
         let mut bytes = other.root.write();

@@ -1,23 +1,26 @@
 //! Rooms made for sessions: objects with images of several states, in boxes that meet, and images that are spoilt.
 
 use crate::damage::{wrong_body, wrong_table};
+use crate::recode;
 use crate::rng::Rng;
 use crate::rooms::{self, u16s, with_extra, Plan};
 use crate::tree::{container, leaf, Body, Node};
 
-/// Sizes and places that images share, so that equal boxes are common.
+/// Sizes and places that images share, so that equal boxes are common, and the room's transparent index, which they hold.
 struct Pool {
     room: (usize, usize),
+    clear: u8,
     sizes: Vec<(usize, usize)>,
     places: Vec<(usize, usize)>,
 }
 
-fn pool(r: &mut Rng, w: usize, h: usize) -> Pool {
+fn pool(r: &mut Rng, plan: &mut Plan) -> Pool {
+    let (w, h, clear) = (plan.w, plan.h, plan.clear());
     let strips = if r.once_in(6) { w / 8 } else { (w / 8).min(3) };
     let height = h.div_ceil(r.pick(&[1, 2, 2, 4]));
     let sizes = (0..r.range(1, 4)).map(|_| (8 * r.range(1, strips), if r.once_in(8) { h } else { r.range(1, height) })).collect();
     let places = (0..r.range(1, 8)).map(|_| (8 * r.below(w / 8), if r.once_in(3) { 0 } else { r.below(h) })).collect();
-    Pool { room: (w, h), sizes, places }
+    Pool { room: (w, h), clear, sizes, places }
 }
 
 /// Sizes that 12 is for, and some that are only odd.
@@ -73,14 +76,25 @@ pub fn change(r: &mut Rng, plan: &mut Plan) {
     }
 }
 
-/// The block IM0s: a picture in which 255 is common, under codes of every kind.
-fn state(r: &mut Rng, s: u8, (w, h): (usize, usize), n: usize) -> Node {
+/// Pixels of a strip with many of the index, of 255 and of their neighbours, under `code`; none where it can't give them.
+fn speckled(r: &mut Rng, code: u8, h: usize, clear: u8) -> Option<Vec<u8>> {
+    let colours = [clear, clear, 255, 0, clear.wrapping_add(1), clear.wrapping_sub(1), r.byte()];
+    // Now and then the index itself is left out.
+    let few = if r.once_in(4) { &colours[2..] } else { &colours };
+    let pixels: Vec<u8> = (0..8 * h).map(|_| r.pick(few)).collect();
+    recode::pixel_body(r, code, &pixels)
+}
+
+/// The block IM0s: a picture in which 255 and the room's index are common, under codes of every kind.
+fn state(r: &mut Rng, s: u8, (w, h): (usize, usize), n: usize, clear: u8) -> Node {
     let mut state = rooms::image(r, w, h, n);
     state.tag = [b'I', b'M', b'0', b'0' + s];
     for kid in state.kids().iter_mut().filter(|kid| &kid.tag == b"SMAP") {
-        if let Body::Strips(strips) = &mut kid.body {
-            for body in strips.bodies.iter_mut().flatten() {
-                body[1] = if r.once_in(2) { 255 } else { body[1] };
+        let Body::Strips(strips) = &mut kid.body else { continue };
+        for body in strips.bodies.iter_mut().flatten() {
+            body[1] = r.pick(&[255, clear, clear, body[1], body[1]]);
+            if r.once_in(4) {
+                *body = speckled(r, body[0], strips.h, clear).unwrap_or(std::mem::take(body));
             }
         }
     }
@@ -112,18 +126,18 @@ fn obim(r: &mut Rng, id: usize, pool: &Pool, n: usize) -> Node {
     let mut kids = vec![leaf(b"IMHD", with_extra(r, imhd))];
     for s in 1..=most {
         if !r.once_in(15) {
-            kids.push(state(r, s as u8, made, n));
+            kids.push(state(r, s as u8, made, n, pool.clear));
         }
     }
     if r.once_in(6) {
-        let mut ten = state(r, 1, made, n);
+        let mut ten = state(r, 1, made, n, pool.clear);
         ten.tag = *r.pick(&[b"IM10", b"IM00", b"IM11", b"IM0A"]);
         kids.push(ten);
     }
     r.shuffle(&mut kids);
     if r.once_in(8) {
         // Second ones aren't looked at.
-        kids.push(state(r, 1, (8, 1), n));
+        kids.push(state(r, 1, (8, 1), n, pool.clear));
         kids.push(leaf(b"IMHD", r.bytes(16)));
     }
     container(b"OBIM", kids)
@@ -182,7 +196,8 @@ fn sizes(r: &mut Rng) -> (usize, usize) {
 fn crowd(r: &mut Rng) -> Plan {
     let (w, h, n) = (8 * if r.once_in(2) { r.range(20, 128) } else { r.range(64, 80) }, r.range(1, 12), r.below(3));
     let mut plan = rooms::bare_room_of(r, w, h, n);
-    let (pool, count) = (Pool { room: (w, h), sizes: vec![(8, r.range(1, h))], places: vec![(0, 0)] }, r.range(64, 128));
+    let (clear, sizes, count) = (plan.clear(), vec![(8, r.range(1, h))], r.range(64, 128));
+    let pool = Pool { room: (w, h), clear, sizes, places: vec![(0, 0)] };
     let (mut blocks, parents) = (vec![obim(r, 257, &pool, n)], parents(r));
     blocks.extend((1..=count).map(|number| obcd(r, (257, number, count), parents, (w, h))));
     plan.root.kids().extend(blocks);
@@ -208,7 +223,7 @@ fn cast(r: &mut Rng) -> Plan {
         1 => 0,
         _ => r.range(2, 10),
     };
-    let (pool, parents) = (pool(r, w, h), parents(r));
+    let (pool, parents) = (pool(r, &mut plan), parents(r));
     let mut blocks = vec![];
     for number in 1..=count {
         // Ids are mostly an object's own; some objects share one, and some have no image.
