@@ -9,7 +9,7 @@ use Prim.Native.Nat.{ℕ, _+_, _-_, _*_, _/_, _%_, _≤_, _<_}
 use mathlib.Core.Path.{_≡_}
 use mathlib.Core.Bool.{true}
 use mathlib.Core.List.{List}
-use mathlib.Core.Logic.{_⊎_, _↔_}
+use mathlib.Core.Logic.{_⊎_}
 use lib.Bits.{bitOr}
 use lib.IntN.{ℤ, pos, _+ℤ_}
 use lib.ListN.{length, getD}
@@ -23,7 +23,7 @@ use Rattle.room.specs.declared.Tested.the-variants.{Right}
 use Rattle.objects.specs.Record.{recordTest, recordAfter}
 use Rattle.image.specs.Image.{imageHeight}
 use Rattle.image.specs.Pixel.{imageStrip, imageColour, clearCode, imageBits}
-use Rattle.scene.specs.Painting.{opaque, covers, reaches, overPixel, overMask}
+use Rattle.scene.specs.Painting.{covers, reaches, overPixel, overMask}
 use Rattle.scene.specs.declared.Entry.{Entry}
 use Rattle.layers.specs.Decoded.{decoded}
 use Rattle.play.specs.Bytes.{Lent, testOf}
