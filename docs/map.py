@@ -26,7 +26,7 @@ BOXES = {
     "verdict": (0, 1, "tests of images"), "session": (0, 2, "plan of a step"), "stored": (0, 3, "a session's bytes"),
     "repaint": (0, 4, "strips painted"), "layers": (0, 5, "strip of an image"), "point": (0, 6, "object at a point"),
     "replay": (1, 2, "a history again"), "scene": (1, 5, "what a session is"), "climb": (1, 6, "parents that open"),
-    "actor": (0, 4, "hidden, stamp"), "limbs": (0, 5, "ticks of limbs"), "costume": (0, 6, "starts"),
+    "actor": (0, 3, "hidden, stamp"), "cast": (0, 4, "a whole cast"), "limbs": (0, 5, "ticks of limbs"), "costume": (0, 6, "starts"),
     "kildegrom": (0, 0, "the C calls"), "call_list": (0, 1, "calls in bytes"), "demands": (0, 2, "demands' pages"),
     "listing": (0, 0, "a room as text"), "list_room": (0, 1, "./list"), "player": (0, 2, "./play"),
     "list_test": (0, 3, "test of ./list"), "vectors": (0, 4, "test of strips"),

@@ -46,7 +46,8 @@ extern "C" {
     X(KG_NOTHING_TO_TAKE_BACK, 13, "nothing to take back") \
     X(KG_POINT_OUTSIDE, 14, "the point is outside the room") \
     X(KG_ANIMATION_WRONG, 15, "an animation number, record, window or limb state is wrong") \
-    X(KG_SIZES_DIFFER, 16, "the two rooms differ in width or height")
+    X(KG_SIZES_DIFFER, 16, "the two rooms differ in width or height") \
+    X(KG_CAST_TOO_LARGE, 18, "a cast has more than 32 actors")
 
 /** @cond */
 #define KG_NUMBER_NAME(name, number, text) name = (number),
@@ -84,10 +85,11 @@ enum {
     KG_LIMBS = 16,
     KG_LIMB_SIZE = 16,
     KG_LIMBS_SIZE = 256,
-    KG_DIFFERENCE_SIZE = 8 /**< one place of kg_compare's list */
+    KG_DIFFERENCE_SIZE = 8, /**< one place of kg_compare's list */
+    KG_ACTOR_SIZE = 32      /**< one struct kg_actor of kg_cast's list */
 };
 
-/** The largest sizes that a call takes; what is larger is refused with 1 (a room), 3, or 10 (the history). */
+/** The largest sizes that a call takes; what is larger is refused with 1 (a room), 3, 10 (the history), or 18 (a cast). */
 enum {
     KG_MAX_ROOM = 1048576,       /**< bytes of a room block */
     KG_MAX_WIDTH = 1024,         /**< pixels across a room, a multiple of 8 from 8 on */
@@ -97,6 +99,7 @@ enum {
     KG_MAX_HISTORY = 64,         /**< steps of a session; so its shown list has at most 64 entries too */
     KG_MAX_PICTURE_WIDTH = 128,  /**< pixels across an actor's picture, from 1 on */
     KG_MAX_PICTURE_HEIGHT = 200, /**< rows of an actor's picture, from 1 on */
+    KG_MAX_CAST = 32,            /**< actors of a cast, from 0 on */
     KG_MAX_PIXELS = KG_MAX_WIDTH * KG_MAX_HEIGHT,                      /**< bytes of pixels that are enough for every room */
     KG_MAX_MASKS = KG_MAX_PLANES * (KG_MAX_WIDTH / 8) * KG_MAX_HEIGHT, /**< bytes of masks that are enough for every room */
     KG_MAX_DIFFERENCES = (KG_MAX_WIDTH / 8) * KG_DIFFERENCE_SIZE       /**< bytes of a list that is enough for every comparison */
@@ -127,7 +130,7 @@ enum {
     KG_STACK_TAKE_BACK = 24576, /**< kg_take_back */
     KG_STACK_OBJECT_AT = 24576, /**< kg_object_at */
     KG_STACK_HEADER = 2048,     /**< kg_header, kg_name, kg_name_number */
-    KG_STACK_ACTOR = 1024,      /**< kg_hidden, kg_stamp */
+    KG_STACK_ACTOR = 1024,      /**< kg_hidden, kg_stamp, kg_cast */
     KG_STACK_COSTUME = 1024,    /**< kg_start, kg_tick, kg_limb_draws */
     KG_STACK_WRITE = 6144,      /**< kg_write_smap, kg_write_plane */
     KG_STACK_COMPARE = 8192     /**< kg_compare */
@@ -141,7 +144,7 @@ enum {
     KG_RECORD_HEIGHT = 2,     /**< H in rows */
     KG_RECORD_PLANES = 4,     /**< N */
     KG_RECORD_OBJECTS = 6,    /**< how many objects the room has */
-    KG_RECORD_TRANSPARENT = 8 /**< a byte: the transparent colour, from the room's TRNS block; 255 where it has none. For kg_stamp */
+    KG_RECORD_TRANSPARENT = 8 /**< a byte: the transparent colour, from the room's TRNS block; 255 where it has none. For kg_stamp, kg_cast */
 };
 
 /** Where the fields of an object's header stand: CDHD's. Bytes, but for the id (kg_u16) and the walk point (kg_i16). */
@@ -326,6 +329,41 @@ uint64_t kg_hidden(const uint8_t *masks, size_t masks_size, uint32_t room_w, uin
 uint32_t kg_stamp(uint8_t *frame, size_t frame_size, const uint8_t *masks, size_t masks_size, const uint8_t *picture, size_t picture_size,
                   uint32_t room_w, uint32_t room_h, uint32_t planes, uint32_t picture_w, uint32_t picture_h, int32_t x, int32_t y,
                   uint32_t clip, uint8_t clear);
+
+/** An actor of a cast (docs/LAYOUTS.md): the host's own struct, 32 bytes without padding, its numbers as the machine keeps them. */
+struct kg_actor {
+    uint32_t id;     /**< of two actors with the same y the lower id is painted first */
+    int32_t y;       /**< the y of its feet in the room: the actor with the smaller one stands farther back and is painted first */
+    int32_t left;    /**< where its picture's upper left corner goes, as x of kg_stamp; it may lie outside the frame */
+    int32_t top;     /**< as y of kg_stamp */
+    uint32_t width;  /**< its picture's width in pixels, 1 to KG_MAX_PICTURE_WIDTH */
+    uint32_t height; /**< its picture's height in pixels, 1 to KG_MAX_PICTURE_HEIGHT */
+    uint32_t clip;   /**< its clip level, as in kg_hidden */
+    uint32_t start;  /**< where its picture starts in the lent pictures: width * height bytes by rows */
+};
+
+/** @cond */
+/* A compiler that lays the struct out otherwise stops here. */
+typedef char kg_actor_is_laid_out_as_said[
+    sizeof(struct kg_actor) == KG_ACTOR_SIZE && offsetof(struct kg_actor, id) == 0 && offsetof(struct kg_actor, y) == 4
+    && offsetof(struct kg_actor, left) == 8 && offsetof(struct kg_actor, top) == 12 && offsetof(struct kg_actor, width) == 16
+    && offsetof(struct kg_actor, height) == 20 && offsetof(struct kg_actor, clip) == 24 && offsetof(struct kg_actor, start) == 28 ? 1 : -1];
+/** @endcond */
+
+/** Paints a whole cast, back to front: puts the list in painting order in place, smaller y first, then lower id, actors with both the same in
+ * the order they came in; then stamps each as kg_stamp does, in that order. A host that keeps the list from frame to frame finds an actor
+ * in it by its id, and a list that is nearly in order is put in order quickest. Refusals: 18 for more than KG_MAX_CAST actors, and then no
+ * actor is read; then 3 and 4 for the frame and the planes, an empty list's too; then those of the first bad actor in the list as handed
+ * in, 3 for its picture's size before 4 for one that passes the end of `pictures`. Refused, neither list nor frame changes.
+ * @param cast,count              `count` actors (not bytes); they are put in order
+ * @param frame,frame_size        a copy of the room's pixels, room_w by room_h; it is written
+ * @param masks,masks_size        the room's masks, as load and steps left them
+ * @param pictures,pictures_size  the actors' pictures; they may share bytes
+ * @param room_w,room_h           the room's size in pixels
+ * @param planes                  how many planes the room has
+ * @param clear                   the colour that is not painted: the room's own is byte KG_RECORD_TRANSPARENT of its record */
+uint32_t kg_cast(struct kg_actor *cast, size_t count, uint8_t *frame, size_t frame_size, const uint8_t *masks, size_t masks_size,
+                 const uint8_t *pictures, size_t pictures_size, uint32_t room_w, uint32_t room_h, uint32_t planes, uint8_t clear);
 
 /* ---- Costumes ---- */
 

@@ -76,7 +76,7 @@ module _ (frame masks picture : List ℕ) (w h n width height clear : ℕ) (x y 
   unfolding stampFrame
   refused-keeps e = rw (ne-eqb refusal 0 e)
 
-  accepted-stamps : refusal ≡ 0 → after ≡ upd (stamped masks picture w h n width height clear x y clip) frame
+  pub accepted-stamps : refusal ≡ 0 → after ≡ upd (stamped masks picture w h n width height clear x y clip) frame
   unfolding stampFrame
   accepted-stamps e = rw (eq-eqb refusal 0 e)
 

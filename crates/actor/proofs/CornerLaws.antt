@@ -1,7 +1,7 @@
 -- The laws of a signed corner: split into how far it stands past 0 and how far before it, and the places that a picture takes from it on.
 -- Assumes nothing.
-use mathlib.Core.Path.{_≡_, ap, _∙_}
-use mathlib.Core.Bool.{true, false}
+use mathlib.Core.Path.{_≡_, sym, ap, _∙_}
+use mathlib.Core.Bool.{true, false, false≢true}
 use Prim.Native.Nat.{ℕ, zero, suc, _+_, _-_, _<_, _≤_}
 use native.Mathlib.Omega.{arith}
 use borrow.Author.Tests.{lt-ltb, le-ltb, le-leb, lt-leb}
@@ -43,3 +43,15 @@ stands-covers z n c p h e = let s = stands z c p e in covers-in z n p (s .0) (om
 
 pub stands-nth : (z : ℤ) (c p : ℕ) → pos p ≡ z +ℤ pos c → nth z p ≡ c
 stands-nth z c p e = let s = stands z c p e in nth-is z p (s .0) ∙ omega arith
+
+-- and the other way: a place that is covered is the n-th one
+pub covers-stands : (z : ℤ) (n p : ℕ) → covers z n p ≡ true → (nth z p < n) × (pos p ≡ z +ℤ pos (nth z p))
+covers-stands z n p e =
+    by-cases (decLt p (ahead z)) (λ b. absurd (false≢true (sym (covers-lo z n p b) ∙ e)))
+    (λ b. by-cases (decLt (p + behind z) (ahead z + n))
+    (λ k. let is = nth-is z p (omega arith) in (omega arith, place z (omega arith)))
+    (λ k. absurd (false≢true (sym (covers-hi z n p (omega arith) (omega arith)) ∙ e))))
+  where
+    place : (z : ℤ) → ahead z ≤ p → pos p ≡ z +ℤ pos (nth z p)
+    place (pos a) l = rw (nth-is (pos a) p l) (ap pos (omega arith))
+    place (negsuc a) l = rw (nth-is (negsuc a) p l, le-ltb (suc a + (p - 0)) (suc a) (omega arith)) (ap pos (omega arith))

@@ -4,4 +4,5 @@ pub mod MaskLaws
 pub mod StampLaws
 pub mod AnswerLaws
 pub mod ActorLaws
+pub mod PictureLaws
 mod Examples

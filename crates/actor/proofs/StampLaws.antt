@@ -32,7 +32,7 @@ module _ (z : ℤ) (size limit p : ℕ) where
       (λ k. within-hi (ahead z) _ p (omega arith) ∙ sym (covers-hi z size p (omega arith) (omega arith))))))
       (λ a. rw (le-ltb p limit (omega arith)) (by-cases (decLt p (ahead z)) (within-lo (ahead z) _ p) (λ b. within-hi (ahead z) _ p (omega arith))))
 
-cond-same : (b d : Bool) (u v o : ℕ) → b ≡ d → (b ≡ true → u ≡ v) → cond b u o ≡ cond d v o
+pub cond-same : (b d : Bool) (u v o : ℕ) → b ≡ d → (b ≡ true → u ≡ v) → cond b u o ≡ cond d v o
 cond-same true d u v o e h = rw (← e) (h refl)
 cond-same false d u v o e h = rw (← e)
 

@@ -3,7 +3,7 @@
 mod corner;
 mod mask;
 mod picture;
-mod sizes;
+pub mod sizes;
 
 ghost use mathlib.Core.Path.{_≡_};
 ghost use lib.ListN.{length};

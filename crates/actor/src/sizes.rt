@@ -6,21 +6,21 @@ ghost use Rattle.actor.specs.Hidden.{hiddenNumber};
 ghost use Rattle.actor.specs.Stamp.{stampNumber};
 
 // Whether a room's width, height and number of planes are inside the sizes.
-pub(crate) fn sizes_fit(w: usize, h: usize, n: usize) -> bool
+pub fn sizes_fit(w: usize, h: usize, n: usize) -> bool
     ensures { λ r. ⌜ r ≡ sizesFit w h n ⌝ }
 {
     (8 <= w) & (w <= 1024) & (w % 8 == 0) & (1 <= h) & (h <= 200) & (n <= 4)
 }
 
 // Whether an actor picture's width and height are inside the sizes.
-pub(crate) fn picture_fits(width: usize, height: usize) -> bool
+pub fn picture_fits(width: usize, height: usize) -> bool
     ensures { λ r. ⌜ r ≡ pictureFits width height ⌝ }
 {
     (1 <= width) & (width <= 128) & (1 <= height) & (height <= 200)
 }
 
 // How many bytes the masks of n planes take.
-pub(crate) fn mask_bytes(w: usize, h: usize, n: usize) -> usize
+pub fn mask_bytes(w: usize, h: usize, n: usize) -> usize
     requires { ⌜ sizesFit w h n ≡ true ⌝ }
     ensures { λ r. ⌜ r ≡ maskBytes w h n ⌝ }
 {

@@ -2,6 +2,7 @@
 use Prim.Native.Nat.{ℕ}
 use mathlib.Core.Path.{_≡_, refl, _∙_}
 use mathlib.Core.List.{List, []}
+use borrow.Author.Tests.{ne-eqb}
 use lib.ListN.{length}
 use Rattle.room.specs.Test.{numberOf, nothing}
 use Rattle.objects.specs.Record.{recordTest, recordAfter}
@@ -18,6 +19,8 @@ use Rattle.actor.proofs.ActorLaws.{refused-keeps}
 use Rattle.actor.specs.Hidden as hidden
 use Rattle.actor.specs.declared.Answer.{Answer}
 use Rattle.actor.specs.declared.Answer.the-variants as answer
+use Rattle.cast.specs.declared.Actor.{Actor}
+use Rattle.cast.specs.Call.{numberIn, castList, castFrame}
 use Rattle.block_writer.specs.Call as write
 use Rattle.block_writer.specs.declared.Wrote.{Wrote}
 use Rattle.block_writer.specs.declared.Wrote.the-variants as wrote
@@ -74,6 +77,11 @@ block-stays (write.written b) d f = absurd (f refl)
 list-stays : (o : compare.Outcome) (l : List ℕ) → Refusing (compare.number (compare.answerOf o)) → compare.listAfter o l ≡ l
 list-stays (compare.no n) l f = refl
 list-stays (compare.ok ds) l f = absurd (f refl)
+
+cast-stays : (k : ℕ) (masks pictures : List ℕ) (w h n clear : ℕ) (list : List Actor) (frame : List ℕ) → Refusing k
+    → (castList k list ≡ list) × (castFrame k masks pictures w h n clear list frame ≡ frame)
+unfolding castList castFrame
+cast-stays k masks pictures w h n clear list frame f = rw (ne-eqb k 0 f) (refl, refl)
 
 -- ---- answers of two parts
 
@@ -133,6 +141,7 @@ demand1 =
       object-parts = λ s session flags x y. object-parts (point.pointedAt s session flags x y);
       hidden-parts = λ masks w h n clip x y. hidden-parts (hidden.hiddenOf masks w h n clip x y);
       stamp-stays = λ frame masks picture w h n width height clear x y clip f. refused-keeps frame masks picture w h n width height clear x y clip f;
+      cast-stays = λ list frame masks pictures w h n clear f. cast-stays (numberIn list frame masks pictures w h n) masks pictures w h n clear list frame f;
       start-parts = λ s l t count v chore direction. start-parts (start.startedOf s l t count v chore direction);
       start-stays = λ s l t count v chore direction f.
           start-unchanged s l t count v chore direction (λ z. f (start-number s l t count v chore direction ∙ z));

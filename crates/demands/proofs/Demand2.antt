@@ -22,13 +22,15 @@ use Rattle.costume.specs.Start.{offsetAt, defined, startNumber, startBytes}
 use Rattle.costume.proofs.Theorems.{start-limb, undefined-unchanged}
 use Rattle.block_writer.specs.Block.{bodyFor, blockOf, smapTag, planeTag}
 use Rattle.block_writer.proofs.ReadBack.{Accepted, smap-accepted, smap-call-reads-in, plane-accepted, plane-call-reads-in}
-use Rattle.demands.specs.Demand2.{Bytes, Behind, Reads, Writes, Hides, Demand2}
+use Rattle.demands.specs.Behind.{Behind}
+use Rattle.demands.specs.Demand2.{Bytes, Reads, Writes, Hides, Demand2}
 use Rattle.demands.specs.Request2.{Request2}
 use Rattle.demands.specs.Request5.{Request5}
 use Rattle.demands.proofs.StripReads as strips
 use Rattle.demands.proofs.LoadReads as load
 use Rattle.demands.proofs.HeaderReads as header
 use Rattle.demands.proofs.WrittenRoom.{written-room, every-picture}
+use Rattle.demands.proofs.Request7.{request7}
 
 -- ---- what is read
 
@@ -134,4 +136,4 @@ pub request5 : Request5
 request5 = record { raw-loaded = load.raw-loaded; raw-strip = strips.raw-strip; run-gives = strips.run-gives; run-cut = strips.run-cut }
 
 pub demand2 : Demand2
-demand2 = record { reads = reading; writes = writing; hides = hiding }
+demand2 = record { reads = reading; writes = writing; hides = hiding; casts = request7 }

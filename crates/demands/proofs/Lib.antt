@@ -29,9 +29,11 @@ pub mod RefusalTables
 pub mod RefusalHistory
 pub mod RefusalCostumes
 pub mod RefusalCompared
+pub mod RefusalCast
 pub mod Refusals
 pub mod Demand1
 pub mod HeaderReads
+pub mod Request7
 pub mod Demand2
 pub mod Demand3
 pub mod Request1

@@ -31,6 +31,19 @@ module _ (t : Bool) (x a : ℕ) where
       back true (e, f) = f
       back false (e, f) = absurd (false≢true e)
 
+  -- or what comes after it gives a too
+  pub fails-or : (cond t x a ≡ a) ↔ ((t ≡ false) ⊎ ((t ≡ true) × (x ≡ a)))
+  fails-or = (there t, back t)
+    where
+      there : (q : Bool) → cond q x a ≡ a → (q ≡ false) ⊎ ((q ≡ true) × (x ≡ a))
+      there true e = inr (refl, e)
+      there false e = inl refl
+
+      back : (q : Bool) → (q ≡ false) ⊎ ((q ≡ true) × (x ≡ a)) → cond q x a ≡ a
+      back true (inl e) = absurd (true≢false e)
+      back true (inr (e, f)) = f
+      back false e = refl
+
 -- neither way gives m
 pub apart : (t : Bool) (x a m : ℕ) → (x ≡ m → ⊥) → (a ≡ m → ⊥) → cond t x a ≡ m → ⊥
 apart true x a m p q e = p e
@@ -175,6 +188,14 @@ both-ways (f, g) (h, k) = (λ (a, b). (f a, h b), λ (c, d). (g c, k d))
 pub or-fails : {A B : Type 0} (a b : Bool) → (a ≡ false) ↔ A → (b ≡ false) ↔ B → ((a && b) ≡ false) ↔ (A ⊎ B)
 or-fails a b p q = one-fails a b then either-way p q
 
+-- a test holds exactly where what makes it fail isn't so
+pub unless : {A : Type 0} (t : Bool) → (t ≡ false) ↔ A → (t ≡ true) ↔ (A → ⊥)
+unless {A} t (f, g) = (λ is a. true≢false (sym is ∙ g a), back t f)
+  where
+    back : (q : Bool) → (q ≡ false → A) → (A → ⊥) → q ≡ true
+    back true h none = refl
+    back false h none = absurd (none (h refl))
+
 -- three in a row
 pub flat : {A B C : Type 0} → (A × (B × C)) ↔ (A × B × C)
 flat = (λ x. (x .0, x .1 .0, x .1 .1), λ x. (x .0, (x .1, x .2)))
@@ -191,6 +212,18 @@ flat-sum {A} {B} {C} = (there, back)
     back (inl a) = inl (inl a)
     back (inr (inl b)) = inl (inr b)
     back (inr (inr c)) = inr c
+
+-- a first and either of two
+pub shared : {A B C : Type 0} → (A × (B ⊎ C)) ↔ ((A × B) ⊎ (A × C))
+shared {A} {B} {C} = (there, back)
+  where
+    there : A × (B ⊎ C) → (A × B) ⊎ (A × C)
+    there (a, inl b) = inl (a, b)
+    there (a, inr c) = inr (a, c)
+
+    back : (A × B) ⊎ (A × C) → A × (B ⊎ C)
+    back (inl (a, b)) = (a, inl b)
+    back (inr (a, c)) = (a, inr c)
 
 pub swapped : {A B : Type 0} → (A ⊎ B) ↔ (B ⊎ A)
 swapped {A} {B} = (there, back)

@@ -16,6 +16,7 @@ use Rattle.demands.proofs.RefusalSessions as session
 use Rattle.demands.proofs.RefusalObjects as object
 use Rattle.demands.proofs.RefusalOthers as other
 use Rattle.demands.proofs.RefusalCompared as compared
+use Rattle.demands.proofs.RefusalCast as cast
 
 pub refusals : Refusals
 refusals =
@@ -25,6 +26,7 @@ refusals =
       accepted-hide = session.hide-zero;
       accepted-take-back = session.take-back-zero;
       accepted-compare = compared.compare-zero;
+      accepted-cast = cast.cast-zero;
       one = room.one;
       not-one-room = tree.not-one-room;
       two = room.two;
@@ -36,6 +38,7 @@ refusals =
       out-of-sizes = sizes.out-of-sizes;
       three-hidden = other.hidden-three;
       three-stamp = other.stamp-three;
+      three-cast = cast.cast-three;
       three-smap = other.smap-three;
       three-plane = other.plane-three;
       sizes-fit = sizes.sizes-fit;
@@ -47,6 +50,7 @@ refusals =
       short-flags = room.short-flags;
       four-hidden = other.hidden-four;
       four-stamp = other.stamp-four;
+      four-cast = cast.cast-four;
       four-start = other.start-four;
       four-tick = other.tick-four;
       four-draws = other.draws-four;
@@ -87,6 +91,7 @@ refusals =
       limb-wrong = costumes.limb-wrong;
       record-wrong = costumes.record-wrong;
       sixteen = compared.compare-sixteen;
+      eighteen = cast.cast-eighteen;
       test-of-load = λ s b. refl;
       test-of-record = λ s lent. refl;
       test-of-call = λ s b. refl;
@@ -114,6 +119,7 @@ numbers =
       of-name = object.name-numbered;
       of-hidden = other.hidden-numbers;
       of-stamp = other.stamp-numbers;
+      of-cast = cast.cast-numbers;
       of-start = other.start-numbers;
       of-tick = other.tick-numbers;
       of-limb-draws = other.draws-numbers;

@@ -19,6 +19,8 @@ use Rattle.play.specs.Bytes as play
 use Rattle.point.specs.Call as point
 use Rattle.actor.specs.Hidden as hidden
 use Rattle.actor.specs.Stamp.{stampNumber, stampFrame}
+use Rattle.cast.specs.declared.Actor.{Actor}
+use Rattle.cast.specs.Call.{numberIn, castList, castFrame}
 use Rattle.costume.specs.Start as start
 use Rattle.limbs.specs.Tick.{tickNumber, tickBytes}
 use Rattle.limbs.specs.Limb as limb
@@ -56,6 +58,10 @@ pub record Demand1 : Type 0 where
   pub stamp-stays : (frame masks picture : List ℕ) (w h n width height clear : ℕ) (x y : ℤ) (clip : ℕ)
       → Refusing (stampNumber (length frame) (length masks) (length picture) w h n width height)
       → stampFrame frame masks picture w h n width height clear x y clip ≡ frame
+  -- kg_cast: the list and the frame
+  pub cast-stays : (list : List Actor) (frame masks pictures : List ℕ) (w h n clear : ℕ)
+      → let r = numberIn list frame masks pictures w h n in Refusing r
+      → (castList r list ≡ list) × (castFrame r masks pictures w h n clear list frame ≡ frame)
   -- kg_start, kg_tick: the limbs
   pub start-parts : (s l : List ℕ) (t count v chore direction : ℕ)
       → let a = start.startedOf s l t count v chore direction in Parts (start.number a) (start.value a) (startedWord a)

@@ -4,8 +4,8 @@
 --
 -- Said of what the contracts of the calls promise (crate kildegrom): `testOf` and `afterLoad` of kg_load, `headerCall` and `headerAfter` of
 -- kg_header, `startNumber`, `startBytes`, `tickNumber`, `tickBytes` and `drawnOf` of the costume's calls, `smapOutcome` and `planeOutcome`,
--- `answerOf` and `targetAfter` of the writers, `hiddenOf` of kg_hidden, `stampNumber` and `stampFrame` of kg_stamp. What kg_compare says of two rooms'
--- pixels and planes: page Request1.
+-- `answerOf` and `targetAfter` of the writers, `hiddenOf` of kg_hidden, `stampNumber` and `stampFrame` of kg_stamp, `numberIn`, `castList` and `castFrame` of
+-- kg_cast (page Request7, which is part of this one). What kg_compare says of two rooms' pixels and planes: page Request1.
 use Prim.Native.Nat.{ℕ, _+_, _-_, _*_, _/_, _%_, _≤_, _<_}
 use mathlib.Core.Path.{_≡_}
 use mathlib.Core.Bool.{Bool, false, cond}
@@ -34,13 +34,15 @@ use Rattle.limbs.specs.Limb as limb
 use Rattle.limbs.specs.Tick.{stream, tickedLimb, tickNumber, tickBytes}
 use Rattle.costume.specs.Record.{entryOf, begunLimb}
 use Rattle.costume.specs.Start.{offsetAt, defined, startNumber, startBytes}
-use Rattle.actor.specs.Hidden.{maskBit, hiddenOf, number, value}
+use Rattle.actor.specs.Hidden.{hiddenOf, number, value}
 use Rattle.actor.specs.Stamp.{stampNumber, stampFrame}
 use Rattle.block_writer.specs.Block.{smapBlock, planeBlock}
 use Rattle.block_writer.specs.Reads.{SmapReads, PlaneReads}
 use Rattle.block_writer.specs.Call.{smapOutcome, planeOutcome, answerOf, targetAfter}
 use Rattle.block_writer.specs.declared.Wrote.the-variants.{Block}
 use Rattle.stored.specs.Layout.{sessionSize}
+use Rattle.demands.specs.Behind.{Behind}
+use Rattle.demands.specs.Request7.{Request7}
 use Rattle.demands.specs.Written.{roomAround, smapWritten, planeWritten, Loads}
 
 -- every number of a list is a byte, as of every lent slice
@@ -54,10 +56,6 @@ bodyIn room r k = bodyOf false (strips r) room (r .smap) (r .«smap_end») k
 -- the pixels of a body of h rows, in the order in which they are made: the first colour, then what the bits after it give
 abbrev pub operations : Bool → (width h : ℕ) → List ℕ → Strip
 operations second width h body = decode second width (8 * h) 1 (getD body 1 0) 1 (bitsOf (drop 2 body))
-
--- the clip level names a plane of the room, and that plane's bit is set at (x, y)
-abbrev pub Behind : List ℕ → (w h n clip x y : ℕ) → Type 0
-Behind masks w h n clip x y = (1 ≤ clip) × (clip ≤ n) × (maskBit masks w h clip x y ≡ 1)
 
 -- ---- what is read
 
@@ -147,3 +145,5 @@ pub record Demand2 : Type 0 where
   pub reads : Reads
   pub writes : Writes
   pub hides : Hides
+  -- and for a whole cast: its stamps are those of kg_stamp, one by one, back to front
+  pub casts : Request7

@@ -1,5 +1,7 @@
 pub mod Written
 pub mod Demand1
+pub mod Behind
+pub mod Request7
 pub mod Demand2
 pub mod Demand3
 pub mod Request1

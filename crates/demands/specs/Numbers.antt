@@ -17,6 +17,8 @@ use Rattle.point.specs.Call as point
 use Rattle.actor.specs.Hidden.{hiddenOf}
 use Rattle.actor.specs.Hidden as actor
 use Rattle.actor.specs.Stamp.{stampNumber}
+use Rattle.cast.specs.declared.Actor.{Actor}
+use Rattle.cast.specs.Call.{numberIn}
 use Rattle.limbs.specs.Limb.{drawnOf}
 use Rattle.limbs.specs.Limb as limb
 use Rattle.limbs.specs.Tick.{tickNumber}
@@ -49,9 +51,10 @@ pub record Numbers : Type 0 where
   pub of-object-at : (s session flags : List ℕ) (x y : ℕ) → UpToOr 9 14 (point.number (pointedAt s session flags x y))
   pub of-header : (s lent : List ℕ) (k : ℕ) → UpToOr 8 11 (placeNumber (headerCall s lent k))
   pub of-name : (s : List ℕ) (k : ℕ) → UpToOr 8 11 (nameNumber s k)
-  -- kg_hidden: 3, 4, 14; kg_stamp: 3, 4
+  -- kg_hidden: 3, 4, 14; kg_stamp: 3, 4; kg_cast: 3, 4, 18
   pub of-hidden : (masks : List ℕ) (w h n clip x y : ℕ) → Among3 3 4 14 (actor.number (hiddenOf masks w h n clip x y))
   pub of-stamp : (frame masks picture w h n width height : ℕ) → Among2 3 4 (stampNumber frame masks picture w h n width height)
+  pub of-cast : (list : List Actor) (frame masks pictures : List ℕ) (w h n : ℕ) → Among3 3 4 18 (numberIn list frame masks pictures w h n)
   -- kg_start, kg_tick, kg_limb_draws: 4, 15
   pub of-start : (s l : List ℕ) (t count v chore direction : ℕ) → Among2 4 15 (start.number (startedOf s l t count v chore direction))
   pub of-tick : (s l : List ℕ) (v : ℕ) → Among2 4 15 (tickNumber s l v)

@@ -6,7 +6,7 @@ use mathlib.Core.Bool.{Bool, true, false}
 use mathlib.Core.List.{List, []}
 use mathlib.Core.Logic.{_↔_, _⊎_}
 use lib.Dec.{eqb}
-use lib.ListN.{length}
+use lib.ListN.{length, getD}
 use Rattle.block.specs.Tag.{tag-SMAP}
 use Rattle.block.specs.Tree.{wellFormed, findTag}
 use Rattle.block.specs.declared.Found.the-variants.{At}
@@ -45,6 +45,8 @@ use Rattle.actor.specs.Sizes.{sizesFit, pictureFits, maskBytes}
 use Rattle.actor.specs.Hidden.{hiddenOf}
 use Rattle.actor.specs.Hidden as actor
 use Rattle.actor.specs.Stamp.{stampNumber}
+use Rattle.cast.specs.declared.Actor.{Actor}
+use Rattle.cast.specs.Call.{numberIn}
 use Rattle.limbs.specs.Limb.{placesRight, limbsRight, drawnOf}
 use Rattle.limbs.specs.Limb as limb
 use Rattle.limbs.specs.Tick.{commandRight, stream, tickNumber}
@@ -141,6 +143,26 @@ AtBoth a b P = (ra : Room) × (rb : Room) × (roomTest nothing a ≡ Right ra) �
 abbrev pub stripsOff : (a b : List ℕ) → (ra rb : Room) → ℕ
 stripsOff a b ra rb = length (compare.differences (compare.rooms a ra b rb))
 
+-- ---- kg_cast of a list of actor records; its number is `numberIn`. With the lengths of the frame, the masks and the pixel buffer that are lent to it:
+
+-- "3 and 4 for frame and planes": neither is given
+abbrev pub FrameFits : (frame masks w h n : ℕ) → Type 0
+FrameFits frame masks w h n = (sizesFit w h n ≡ true) × (w * h ≤ frame) × (maskBytes w h n ≤ masks)
+
+-- where the picture of a record ends in the pixel buffer
+abbrev pub pictureEnd : Actor → ℕ
+pictureEnd a = a .start + a .width * a .height
+
+-- "its size (3) before its buffer (4)": neither is given to a record
+abbrev pub RecordFits : (pictures : ℕ) → Actor → Type 0
+RecordFits pictures a = (OutOfPicture (a .width) (a .height) → ⊥) × (pictureEnd a ≤ pictures)
+
+-- "the first bad record in the list as handed in", at place i: neither is given to those before it, and P holds of it. `none` is what `getD` gives past
+-- the end, where no place is
+abbrev pub FirstBad : (pictures : ℕ) → List Actor → (Actor → Type 0) → Type 0
+FirstBad pictures list P =
+    (i : ℕ) × (i < length list) × ((j : ℕ) (none : Actor) → j < i → RecordFits pictures (getD list j none)) × ((none : Actor) → P (getD list i none))
+
 -- ---- the table
 
 pub record Refusals : Type 0 where
@@ -154,6 +176,9 @@ pub record Refusals : Type 0 where
   pub accepted-take-back : (s : List ℕ) (b : play.Lent) → (play.numberOf s b TakeBack ≡ 0) ↔ AtSession s b (λ r ss. ss .history ≡ [] → ⊥)
   pub accepted-compare : (a b : List ℕ) (size : ℕ) → (compareNumber a b size ≡ 0)
       ↔ AtBoth a b (λ ra rb. (ra .width ≡ rb .width) × (ra .height ≡ rb .height) × (stripsOff a b ra rb ≤ size / 8))
+  pub accepted-cast : (list : List Actor) (frame masks pictures : List ℕ) (w h n : ℕ) → (numberIn list frame masks pictures w h n ≡ 0)
+      ↔ ((length list ≤ 32) × FrameFits (length frame) (length masks) w h n
+      × ((i : ℕ) (none : Actor) → i < length list → RecordFits (length pictures) (getD list i none)))
   -- 1: "the slice isn't one ROOM block filling it, is over the size, a block size is below 8 or passes its parent, children don't fill a container, or
   -- a block stands at depth 7"
   pub one : (lent : Lent) (s : List ℕ) → (numberOf (roomTest lent s) ≡ 1) ↔ (wellFormed s ≡ false)
@@ -176,6 +201,11 @@ pub record Refusals : Type 0 where
   pub three-hidden : (masks : List ℕ) (w h n clip x y : ℕ) → (actor.number (hiddenOf masks w h n clip x y) ≡ 3) ↔ (sizesFit w h n ≡ false)
   pub three-stamp : (frame masks picture w h n width height : ℕ)
       → (stampNumber frame masks picture w h n width height ≡ 3) ↔ ((sizesFit w h n ≡ false) ⊎ (pictureFits width height ≡ false))
+  -- change request 7: "18 …, then 3 and 4 for frame and planes, then those of the first bad record in the list as handed in, its size (3) before its buffer
+  -- (4). An empty list still has the frame's 3 and 4", and no others
+  pub three-cast : (list : List Actor) (frame masks pictures : List ℕ) (w h n : ℕ) → (numberIn list frame masks pictures w h n ≡ 3)
+      ↔ ((length list ≤ 32) × ((sizesFit w h n ≡ false)
+      ⊎ (FrameFits (length frame) (length masks) w h n × FirstBad (length pictures) list (λ a. OutOfPicture (a .width) (a .height)))))
   pub three-smap : (w h : ℕ) (rows : List ℕ) (size : ℕ) → (writer.number (answerOf (smapOutcome w h rows size)) ≡ 3) ↔ (sizesAllowed w h ≡ false)
   pub three-plane : (k w h : ℕ) (rows : List ℕ) (size : ℕ)
       → (writer.number (answerOf (planeOutcome k w h rows size)) ≡ 3) ↔ ((sizesAllowed w h ≡ false) ⊎ (k < 1) ⊎ (4 < k))
@@ -196,6 +226,11 @@ pub record Refusals : Type 0 where
       → (stampNumber frame masks picture w h n width height ≡ 4)
       ↔ ((sizesFit w h n ≡ true) × (pictureFits width height ≡ true)
       × ((frame < w * h) ⊎ (masks < maskBytes w h n) ⊎ (picture < width * height)))
+  -- change request 7: the same for 4; the first bad record's size is right, and its picture passes the buffer's end
+  pub four-cast : (list : List Actor) (frame masks pictures : List ℕ) (w h n : ℕ) → (numberIn list frame masks pictures w h n ≡ 4)
+      ↔ ((length list ≤ 32) × (((sizesFit w h n ≡ true) × ((length frame < w * h) ⊎ (length masks < maskBytes w h n)))
+      ⊎ (FrameFits (length frame) (length masks) w h n
+      × FirstBad (length pictures) list (λ a. (OutOfPicture (a .width) (a .height) → ⊥) × (length pictures < pictureEnd a)))))
   pub four-start : (s l : List ℕ) (t count v chore direction : ℕ) → (start.number (startedOf s l t count v chore direction) ≡ 4) ↔ (length l < 256)
   pub four-tick : (s l : List ℕ) (v : ℕ) → (tickNumber s l v ≡ 4) ↔ (length l < 256)
   pub four-draws : (l : List ℕ) (i : ℕ) → (limb.number (drawnOf l i) ≡ 4) ↔ (length l < 256)
@@ -279,6 +314,8 @@ pub record Refusals : Type 0 where
   -- 16, change request 1: "when W or H differs"
   pub sixteen : (a b : List ℕ) (size : ℕ) → (compareNumber a b size ≡ 16)
       ↔ AtBoth a b (λ ra rb. (ra .width ≡ rb .width → ⊥) ⊎ (ra .height ≡ rb .height → ⊥))
+  -- 18, change request 7: "for more than 32 records"
+  pub eighteen : (list : List Actor) (frame masks pictures : List ℕ) (w h n : ℕ) → (numberIn list frame masks pictures w h n ≡ 18) ↔ (32 < length list)
   -- "Every call that takes room bytes tests the whole room as the load does": the load's test and the record's, which give their numbers, and that of a
   -- draw, a hide or a take-back
   pub test-of-load : (s : List ℕ) (b : play.Lent)

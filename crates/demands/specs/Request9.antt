@@ -68,7 +68,8 @@ pub record Request9 : Type 0 where
   -- "It replaces 255 in document 01's painting rule", "demand 3 is over the painting with that index"
   pub paints : (s : List ℕ) (b : Lent) (r : Room) → testOf s b ≡ Right r → (i : ℕ) → Index s i → (e : Entry) → Paints s r i e
   -- "The stamp … take the index as a byte from the caller": the picture's pixel at a column and a row, which stands at (p, q) of the frame, is not
-  -- written where it has that index. What becomes of every other pixel: page Demand2, `stamped-exactly`, for the same index
+  -- written where it has that index. What becomes of every other pixel: page Demand2, `stamped-exactly`, for the same index. A cast's stamps are these, with
+  -- the cast's index: page Request7, `stamps`
   pub stamp-leaves : (frame masks picture : List ℕ) (w h n width height clear : ℕ) (x y : ℤ) (clip : ℕ)
       → stampNumber (length frame) (length masks) (length picture) w h n width height ≡ 0
       → (column row p q : ℕ) → column < width → row < height → pos p ≡ x +ℤ pos column → pos q ≡ y +ℤ pos row → p < w → q < h

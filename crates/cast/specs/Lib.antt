@@ -1,0 +1,4 @@
+pub mod Order
+pub mod Sort
+pub mod Turns
+pub mod Call
