@@ -8,7 +8,7 @@
 #     make compare                     target/host/compare, in what two rooms differ
 #     make write                       target/host/write, one block
 #     make programs                    example, show, compare and write
-#     make picture                     docs/harbour.png, docs/winter.png and docs/compared.png, the pictures of the README
+#     make picture                     docs/harbour.png, docs/winter.png, docs/compared.png and docs/cast.png, the pictures of the README
 #     make test                        ./test
 #     make check                       ./test, too
 #     make clean                       removes target/: what was built, and what rt has proved
@@ -44,7 +44,7 @@ programs: $(PROGRAMS)
 $(PROGRAMS): %: $(OUT)/%
 
 $(OUT)/example: host/example/example.c
-$(OUT)/show: host/show/show.c host/programs.h
+$(OUT)/show: host/show/show.c host/show/cast.h host/programs.h
 $(OUT)/compare: host/compare/compare.c host/programs.h
 $(OUT)/write: host/write/write.c
 $(OUT)/%: include/kildegrom.h $(LIBRARY)
@@ -61,7 +61,7 @@ install: $(LIBRARY)
 uninstall:
 	rm -f "$$TREE/include/kildegrom.h" "$$TREE/lib/libkildegrom.a" "$$TREE/lib/pkgconfig/kildegrom.pc"
 
-picture: docs/harbour.png docs/winter.png docs/compared.png
+picture: docs/harbour.png docs/winter.png docs/compared.png docs/cast.png
 
 SHOWN = ./show rooms/$*.room rooms/$*.calls --palette rooms/$*.pal
 docs/harbour.png docs/winter.png: docs/%.png: rooms/%.room rooms/%.calls rooms/%.pal tools/png $(OUT)/show
@@ -72,6 +72,15 @@ docs/harbour.png docs/winter.png: docs/%.png: rooms/%.room rooms/%.calls rooms/%
 # Status 1 says that the rooms differ, as these do.
 docs/compared.png: rooms/harbour.room rooms/harbour-b.room rooms/harbour.pal tools/png $(OUT)/compare
 	./compare rooms/harbour.room rooms/harbour-b.room --palette rooms/harbour.pal --picture $@ || [ $$? -eq 1 ]
+
+# The cast as the library paints it, and its actors in the order of their list, by a list in which all have the same y.
+CAST = ./show rooms/harbour.room rooms/harbour.calls --palette rooms/harbour.pal --cast
+docs/cast.png: rooms/harbour.room rooms/harbour.calls rooms/harbour.pal rooms/harbour.cast rooms/harbour.pictures tools/png $(OUT)/show
+	cp rooms/harbour.pictures $(OUT)
+	awk '$$1 == "actor" { $$2 = NR; $$3 = 0 } { print }' rooms/harbour.cast > $(OUT)/harbour.cast
+	$(CAST) rooms/harbour.cast > $(OUT)/cast.ppm
+	$(CAST) $(OUT)/harbour.cast > $(OUT)/listed.ppm
+	tools/png --scale 2 $(OUT)/cast.ppm $(OUT)/listed.ppm > $@
 
 test check:
 	./test

@@ -1,5 +1,6 @@
 /* Calls every function of include/kildegrom.h over the C interface: the sample room is loaded, written again block by block, loaded from
- * what was written, an actor is stamped behind its plane, and rooms are compared. Guard bytes stand around each lent buffer. */
+ * what was written, an actor is stamped behind its plane, a cast is painted, and rooms are compared. Guard bytes stand around each lent
+ * buffer. */
 #include "room.h"
 
 enum { WIDTH = 320, HEIGHT = 144, STRIPS = WIDTH / 8 };
@@ -176,6 +177,100 @@ static void list_of_steps(struct lent room)
     give_back(masks);
     give_back(earlier);
     give_back(earlier_masks);
+}
+
+/* The compiler holds the struct against docs/LAYOUTS.md: every field has four bytes, at its place. */
+#define FIELD_AT(field, at) \
+    typedef char field##_is_at_##at[offsetof(struct kg_actor, field) == (at) && sizeof(((struct kg_actor *)0)->field) == 4 ? 1 : -1]
+FIELD_AT(id, 0);
+FIELD_AT(y, 4);
+FIELD_AT(left, 8);
+FIELD_AT(top, 12);
+FIELD_AT(width, 16);
+FIELD_AT(height, 20);
+FIELD_AT(clip, 24);
+FIELD_AT(start, 28);
+#undef FIELD_AT
+typedef char an_actor_has_32_bytes[sizeof(struct kg_actor) == 32 && KG_ACTOR_SIZE == 32 ? 1 : -1];
+
+/* Three actors of 8 by 8 pixels, in the order in which they are painted: far away; nearer, behind plane 1 from row 88 on; nearer still by
+ * its id, before every plane. Each has a picture of one colour, 11, 12 or 13. */
+static const struct kg_actor three_actors[3] = { { 9, 80, 2, 80, 8, 8, 1, 0 }, { 2, 91, 4, 84, 8, 8, 1, 64 }, { 7, 91, 0, 84, 8, 8, 0, 128 } };
+
+/* The call on this many actors of a list, in a room of this width. */
+static uint32_t cast_of(size_t count, struct lent list, struct lent frame, struct lent masks, struct lent pictures, uint32_t w)
+{
+    return kg_cast((struct kg_actor *)(void *)list.at, count, frame.at, frame.size, masks.at, masks.size, pictures.at, pictures.size, w, HEIGHT, 1, 255);
+}
+
+static struct lent one_short(struct lent b)
+{
+    b.size--;
+    return b;
+}
+
+/* What refuses a cast, in its order. The list has 33 actors: the three, the one that is painted last first, and others like the first. */
+static void cast_refusals(struct lent list, struct lent frame, struct lent masks, struct lent pictures)
+{
+    struct lent list_before = lend(list.size, 0), frame_before = lend(frame.size, 0), cut = one_short(pictures);
+    struct kg_actor *last = (struct kg_actor *)(void *)list.at + 31;
+    last->start = 129;
+    memcpy(list_before.at, list.at, list.size);
+    memcpy(frame_before.at, frame.at, frame.size);
+    expect(cast_of(33, list, frame, masks, cut, 0) == KG_CAST_TOO_LARGE, "33 actors, before the room's size");
+    expect(cast_of(32, list, one_short(frame), masks, cut, WIDTH + 4) == KG_OUT_OF_SIZE, "a room's width, before its frame");
+    expect(cast_of(3, list, one_short(frame), masks, pictures, WIDTH) == KG_BUFFER_SHORT, "a frame one short");
+    expect(cast_of(3, list, frame, one_short(masks), pictures, WIDTH) == KG_BUFFER_SHORT, "masks one short");
+    expect(cast_of(3, list, frame, masks, cut, WIDTH) == KG_BUFFER_SHORT, "pictures one short");
+    expect(cast_of(32, list, frame, masks, pictures, WIDTH) == KG_BUFFER_SHORT, "a start one too far");
+    expect(cast_of(0, list, frame, masks, cut, 0) == KG_OUT_OF_SIZE, "an empty list has the frame's 3");
+    expect(cast_of(0, list, one_short(frame), masks, cut, WIDTH) == KG_BUFFER_SHORT, "an empty list has the frame's 4");
+    expect(cast_of(0, list, frame, one_short(masks), cut, WIDTH) == KG_BUFFER_SHORT, "an empty list has the planes' 4");
+    expect(cast_of(0, list, frame, masks, cut, WIDTH) == KG_ACCEPTED, "an empty list");
+    expect(memcmp(list.at, list_before.at, list.size) == 0, "refused and empty casts leave the list");
+    last->width = 0;
+    expect(cast_of(32, list, frame, masks, pictures, WIDTH) == KG_OUT_OF_SIZE, "an actor's size before its buffer");
+    expect(cast_of(32, list, frame, masks, cut, WIDTH) == KG_BUFFER_SHORT, "the first bad actor in the list as handed in");
+    last->width = 8;
+    expect(memcmp(list.at, list_before.at, list.size) == 0 && memcmp(frame.at, frame_before.at, frame.size) == 0, "and the frame");
+    give_back(list_before);
+    give_back(frame_before);
+}
+
+/* The three actors, handed over the other way round: who hides whom, what the plane hides, and the list afterwards. */
+static void cast_painted(struct lent list, struct lent frame, struct lent masks, struct lent pictures)
+{
+    struct lent bare = lend(frame.size, 0);
+    int again;
+    memcpy(bare.at, frame.at, frame.size);
+#define PIXEL(x, y) frame.at[(y) * WIDTH + (x)]
+    for (again = 0; again < 2; again++) {
+        expect(cast_of(3, list, frame, masks, pictures, WIDTH) == KG_ACCEPTED, "the cast, and once more");
+        expect(memcmp(list.at, three_actors, sizeof three_actors) == 0, "the list in painting order");
+        expect(PIXEL(9, 81) == 11 && PIXEL(9, 85) == 12 && PIXEL(5, 85) == 13 && PIXEL(2, 87) == 13, "the nearer actor hides the other");
+        expect(PIXEL(0, 88) == 13 && PIXEL(7, 91) == 13 && PIXEL(8, 88) == bare.at[88 * WIDTH + 8], "the plane hides its own clip level");
+        expect(PIXEL(12, 85) == bare.at[85 * WIDTH + 12] && PIXEL(1, 83) == bare.at[83 * WIDTH + 1], "beside the actors");
+    }
+#undef PIXEL
+    give_back(bare);
+}
+
+static void casts(struct lent room)
+{
+    struct lent session = lend(KG_SESSION_SIZE, 0), pixels = lend(WIDTH * HEIGHT, 1), masks = lend(STRIPS * HEIGHT, 2);
+    struct lent list = lend(33 * KG_ACTOR_SIZE, 0), pictures = lend(192, 11);
+    size_t i;
+    expect(kg_load(BUFFERS) == KG_ACCEPTED, "the load before the casts");
+    memset(pictures.at + 64, 12, 64);
+    memset(pictures.at + 128, 13, 64);
+    for (i = 0; i < 33; i++) memcpy(list.at + i * KG_ACTOR_SIZE, &three_actors[i < 3 ? 2 - i : 0], KG_ACTOR_SIZE);
+    cast_refusals(list, pixels, masks, pictures);
+    cast_painted(list, pixels, masks, pictures);
+    give_back(session);
+    give_back(pixels);
+    give_back(masks);
+    give_back(list);
+    give_back(pictures);
 }
 
 /* The three changes of `changed_surfaces`: a pixel of strip 0; every pixel and a mask row of strip 20; a mask bit of strip 39. */
@@ -420,6 +515,7 @@ int main(int argc, char **argv)
     steps(room);
     points(room);
     list_of_steps(room);
+    casts(room);
     comparisons(room);
     costume();
     limb_bytes();

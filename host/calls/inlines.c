@@ -38,16 +38,20 @@ static void largest(void)
 {
     struct lent frame = lend(KG_MAX_PIXELS, 0), masks = lend(KG_MAX_MASKS, 0), out = lend(kg_smap_bound(KG_MAX_WIDTH, KG_MAX_HEIGHT), 0);
     const uint32_t w = KG_MAX_WIDTH, h = KG_MAX_HEIGHT, n = KG_MAX_PLANES, wide = KG_MAX_PICTURE_WIDTH, high = KG_MAX_PICTURE_HEIGHT;
+    static struct kg_actor cast[KG_MAX_CAST + 1];
 #define HIDDEN(w, h, n) kg_number(kg_hidden(masks.at, masks.size, w, h, n, 1, 0, 0))
 #define STAMP(wide, high) kg_stamp(frame.at, frame.size, masks.at, masks.size, frame.at, 0, w, h, n, wide, high, 0, 0, 0, 255)
+#define CAST(count) kg_cast(cast, count, frame.at, frame.size, masks.at, masks.size, frame.at, 0, w, h, n, 255)
     expect(HIDDEN(w, h, n) == KG_ACCEPTED && HIDDEN(w, h, n + 1) == KG_OUT_OF_SIZE, "the planes");
     expect(HIDDEN(w + 8, h, 0) == KG_OUT_OF_SIZE && HIDDEN(w, h + 1, 0) == KG_OUT_OF_SIZE, "the room's size");
     expect(STAMP(wide, high) == KG_BUFFER_SHORT && STAMP(wide + 1, high) == KG_OUT_OF_SIZE && STAMP(wide, high + 1) == KG_OUT_OF_SIZE, "a picture's size");
+    expect(CAST(KG_MAX_CAST) == KG_OUT_OF_SIZE && CAST(KG_MAX_CAST + 1) == KG_CAST_TOO_LARGE, "a cast, of pictures without a size");
     expect(kg_number(kg_write_smap(frame.at, frame.size, out.at, out.size, w, h)) == KG_ACCEPTED, "the largest background");
     expect(kg_number(kg_write_plane(masks.at, masks.size, out.at, out.size, w, h, n)) == KG_ACCEPTED, "the last plane");
     expect(kg_number(kg_write_plane(masks.at, masks.size, out.at, out.size, w, h, n + 1)) == KG_OUT_OF_SIZE, "the plane after the last");
 #undef HIDDEN
 #undef STAMP
+#undef CAST
     give_back(frame);
     give_back(masks);
     give_back(out);

@@ -1,6 +1,6 @@
 /* Measures how much stack each call takes in a room made to go deep (deep.h), with an empty and with a full history, and holds it against
- * the figures of include/kildegrom.h. kg_compare is given two such rooms, which differ in every strip. It also asks for the most objects
- * that a room may have, and for one more. */
+ * the figures of include/kildegrom.h. kg_compare is given two such rooms, which differ in every strip; kg_cast the most actors, with the
+ * largest pictures, in the order that has most to be changed. It also asks for the most objects that a room may have, and for one more. */
 #define _POSIX_C_SOURCE 200809L
 #include "deep.h"
 #include "kildegrom.h"
@@ -12,6 +12,7 @@ static uint8_t record[KG_RECORD_SIZE], header[KG_HEADER_SIZE], session[KG_SESSIO
 static uint8_t flags[KG_MAX_OBJECTS], picture[KG_MAX_PICTURE_WIDTH * KG_MAX_PICTURE_HEIGHT], limbs[KG_LIMBS_SIZE], out[2 * KG_MAX_PIXELS];
 static uint8_t other[sizeof deep], list[DEEP_WIDTH / 8 * KG_DIFFERENCE_SIZE]; /* for kg_compare: another deep room, a list of its strips */
 static size_t other_size;
+static struct kg_actor cast[KG_MAX_CAST];
 static uint64_t answer;
 
 /* A costume of one record: all 16 limbs get the window of two bytes that starts at stream index 0. */
@@ -47,6 +48,15 @@ static void ask_stamp(void)
                       KG_MAX_PICTURE_HEIGHT, -9, -9, 4, 255);
 }
 
+static void ask_cast_of(size_t pictures_size)
+{
+    answer = kg_cast(cast, KG_MAX_CAST, pixels, sizeof pixels, masks, sizeof masks, picture, pictures_size, DEEP_WIDTH, DEEP_HEIGHT, 4, 255);
+}
+
+/* The pictures are exactly long enough, or a byte short for the last actor alone. */
+static void ask_cast(void) { ask_cast_of(sizeof picture); }
+static void ask_cast_short(void) { ask_cast_of(sizeof picture - 1); }
+
 struct question {
     const char *call;
     void (*ask)(void);
@@ -81,6 +91,8 @@ static const struct question questions[] = {
     { "kg_write_plane", ask_plane, KG_STACK_WRITE, 0, 0, 1 },
     { "kg_compare", ask_compare, KG_STACK_COMPARE, 0, 0, 1 },
     { "kg_compare", ask_compare_short, KG_STACK_COMPARE, 0, KG_BUFFER_SHORT, 0 },
+    { "kg_cast", ask_cast, KG_STACK_ACTOR, 0, 0, 0 },
+    { "kg_cast", ask_cast_short, KG_STACK_ACTOR, 0, KG_BUFFER_SHORT, 0 },
 };
 
 static void stop(const char *call, const char *what)
@@ -109,10 +121,22 @@ static void make_payload(void)
     for (i = 0; i < KG_LIMBS; i++) payload[4 + 3 * i + 2] = 1;
 }
 
+/* The actor that is painted last comes first. All have the same picture, of which the last has a row more. */
+static void make_cast(void)
+{
+    uint32_t i;
+    for (i = 0; i < KG_MAX_CAST; i++) {
+        const struct kg_actor actor = { i, -(int32_t)i, -9, (int32_t)i - 20, KG_MAX_PICTURE_WIDTH, KG_MAX_PICTURE_HEIGHT - 1, 4, 0 };
+        cast[i] = actor;
+    }
+    cast[KG_MAX_CAST - 1].height++;
+}
+
 static void measure(const struct question *q)
 {
     size_t used;
     make_steps(q->steps);
+    make_cast();
     used = stack_used(q->ask);
     printf("stack: %-14s after %2u steps: %5u bytes, figure %5u\n", q->call, (unsigned)q->steps, (unsigned)used, (unsigned)q->figure);
     if (kg_number(answer) != q->number) stop(q->call, kg_refusal_text(kg_number(answer)));

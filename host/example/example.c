@@ -1,5 +1,5 @@
-/* The start of a C host: loads a room, draws object 1, moves it and takes that back, puts an actor before and behind plane 1, and writes
- * the frame as a PPM picture in grey.
+/* The start of a C host: loads a room, draws object 1, moves it and takes that back, paints a cast of three actors, one of them behind plane
+ * 1, and writes the frame as a PPM picture in grey.
  *
  *     example ROOM [OUT.ppm]     standard output where no OUT is named
  *
@@ -17,7 +17,17 @@ static size_t room_size, pixels_size, masks_size;
 static uint32_t room_w, room_h, planes;
 static uint8_t clear; /* the room's transparent colour */
 
-enum { OBJECT = 1, ACTOR_W = 16, ACTOR_H = 40 };
+enum { OBJECT = 1, ACTORS = 3, ACTOR_W = 16, ACTOR_H = 40, ACTOR_SIZE = ACTOR_W * ACTOR_H };
+
+/* The actors, in any order: the library puts them in painting order, by the y of their feet. A host keeps the list from frame to frame, and
+ * finds an actor in it by its id. */
+static struct kg_actor cast[ACTORS] = {
+    /* id, y of the feet, left, top, width, height, clip level, start of the picture */
+    { 1, 116, 40, 77, ACTOR_W, ACTOR_H, 0, 0 },               /* in front: before every plane, and before the next one */
+    { 2, 109, 30, 70, ACTOR_W, ACTOR_H, 0, ACTOR_SIZE },      /* farther back */
+    { 3, 109, 232, 70, ACTOR_W, ACTOR_H, 1, 2 * ACTOR_SIZE }, /* behind plane 1 */
+};
+static uint8_t pictures[ACTORS * ACTOR_SIZE];
 
 /* The lent buffers of a session call, in their order. */
 #define LENT room, room_size, session, sizeof session, pixels, pixels_size, masks, masks_size
@@ -59,27 +69,32 @@ static void load(void)
     accepted(kg_load(LENT), "the load");
 }
 
-/* An actor: head, body and legs in three greys, and what is around them in the room's transparent colour. His ear muffs are as white as
- * snow, 255; a room whose own transparent colour is 255 has no such white, and he goes without them there. */
-static void paint_actor(uint8_t *picture)
+/* An actor's picture: head, body and legs in three greys, and what is around them in the room's transparent colour. His ear muffs are as
+ * white as snow, 255; a room whose own transparent colour is 255 has no such white, and he goes without them there. */
+static void draw_actor(uint8_t *picture, uint8_t coat)
 {
     int x, y;
     for (y = 0; y < ACTOR_H; y++) {
         for (x = 0; x < ACTOR_W; x++) {
             int head = y < 10 && x >= 4 && x < 12, body = y >= 10 && y < 26, leg = y >= 26 && x % 8 >= 1 && x % 8 < 7;
             int muff = y >= 3 && y < 8 && ((x >= 1 && x < 4) || (x >= 12 && x < 15));
-            picture[y * ACTOR_W + x] = (uint8_t)(head ? 250 : body ? 20 : leg ? 90 : muff ? 255 : clear);
+            picture[y * ACTOR_W + x] = (uint8_t)(head ? 250 : body ? coat : leg ? 90 : muff ? 255 : clear);
         }
     }
 }
 
-/* The library's pixels stay as the steps made them; actors are stamped on a copy, anew for each frame. */
-static void stamp(int32_t x, int32_t y, uint32_t clip)
+static void draw_actors(void)
 {
-    uint8_t picture[ACTOR_W * ACTOR_H];
-    paint_actor(picture);
-    accepted(kg_stamp(frame, pixels_size, masks, masks_size, picture, sizeof picture, room_w, room_h, planes, ACTOR_W, ACTOR_H, x,
-                      y, clip, clear), "the stamp");
+    static const uint8_t coats[ACTORS] = { 20, 130, 170 };
+    int i;
+    for (i = 0; i < ACTORS; i++) draw_actor(pictures + i * ACTOR_SIZE, coats[i]);
+}
+
+/* The library's pixels stay as the steps made them; the cast is painted on a copy, anew for each frame. */
+static void paint_cast(void)
+{
+    memcpy(frame, pixels, pixels_size);
+    accepted(kg_cast(cast, ACTORS, frame, pixels_size, masks, masks_size, pictures, sizeof pictures, room_w, room_h, planes, clear), "the cast");
 }
 
 static void write_grey(const char *path)
@@ -104,9 +119,8 @@ int main(int argc, char **argv)
     accepted(kg_draw_last(LENT, OBJECT, 1), "object 1 in state 1 where it was");
     accepted(kg_draw_at(LENT, OBJECT, 2, 1, 1), "object 1 in state 2 at strip position (1, 1)");
     accepted(kg_take_back(LENT), "the take-back");
-    memcpy(frame, pixels, pixels_size);
-    stamp(30, 70, 0);  /* clip 0: before every plane */
-    stamp(232, 70, 1); /* clip 1: behind plane 1 */
+    draw_actors();
+    paint_cast();
     write_grey(argc == 3 ? argv[2] : NULL);
     return 0;
 }

@@ -1,19 +1,21 @@
 /* The picture of a room after a list of calls, as a PPM on standard output. The script ./show starts it.
  *
- *     show [--plane K] [--boxes] [--palette FILE] ROOM [RECORDS]
+ *     show [--cast FILE] [--plane K] [--boxes] [--palette FILE] ROOM [RECORDS]
  *
  * RECORDS is what tools/calls makes of a list. A refused call leaves the picture as it was, and standard error has a line of its place in
  * the list and its number, `call 3: 12`, as the player writes it; the script turns it into the list's own words. --plane tints the pixels
- * that plane K hides, --boxes outlines the objects' boxes, a palette is 768 bytes (red, green, blue of the colours 0 to 255).
+ * that plane K hides, --boxes outlines the objects' boxes, a palette is 768 bytes (red, green, blue of the colours 0 to 255). --cast paints
+ * actors after the calls (cast.h has their list); a refused cast leaves the picture as it was too, and is named on standard error.
  * Exit status: 0; 1 the load was refused or the picture can't be written; 2 a wrong argument or file. */
 #define PROGRAM "show"
 #include "../programs.h"
+#include "cast.h"
 
 enum { CALL_SIZE = 20 };
 enum kind { HIDE = 0, DRAW_LAST = 1, DRAW_AT = 2, TAKE_BACK = 3 };
 
 struct options {
-    const char *room, *records, *palette;
+    const char *room, *records, *palette, *cast;
     uint32_t plane; /* 0: no overlay */
     int boxes;
 };
@@ -25,15 +27,17 @@ struct call {
 /* The largest room and its surfaces: with these nothing is allocated. One byte more than a room may have, so that a longer file is
  * refused by the library and not cut. */
 static uint8_t room[KG_MAX_ROOM + 1], session[KG_SESSION_SIZE], pixels[KG_MAX_PIXELS], masks[KG_MAX_MASKS], picture[3 * sizeof pixels];
+static uint8_t frame[sizeof pixels]; /* the pixels with the cast */
 static size_t room_size, pixels_size, masks_size;
 static uint32_t width, height, planes, objects;
+static uint8_t clear; /* the room's transparent colour */
 
 /* The lent buffers of a session call, in their order. */
 #define LENT room, room_size, session, sizeof session, pixels, pixels_size, masks, masks_size
 
 static void usage(void)
 {
-    stop(2, "usage: show [--plane K] [--boxes] [--palette FILE] ROOM [RECORDS]");
+    stop(2, "usage: show [--cast FILE] [--plane K] [--boxes] [--palette FILE] ROOM [RECORDS]");
 }
 
 static uint32_t plane_number(const char *text)
@@ -44,12 +48,13 @@ static uint32_t plane_number(const char *text)
 
 static struct options options_of(int argc, char **argv)
 {
-    struct options o = { NULL, NULL, NULL, 0, 0 };
+    struct options o = { NULL, NULL, NULL, NULL, 0, 0 };
     int i;
     for (i = 1; i < argc; i++) {
         if (strcmp(argv[i], "--boxes") == 0) o.boxes = 1;
         else if (strcmp(argv[i], "--plane") == 0 && i + 1 < argc) o.plane = plane_number(argv[++i]);
         else if (strcmp(argv[i], "--palette") == 0 && i + 1 < argc) o.palette = argv[++i];
+        else if (strcmp(argv[i], "--cast") == 0 && i + 1 < argc) o.cast = argv[++i];
         else if (argv[i][0] == '-') usage();
         else if (o.room == NULL) o.room = argv[i];
         else if (o.records == NULL) o.records = argv[i];
@@ -70,6 +75,7 @@ static void load(const char *path)
         height = kg_u16(record + KG_RECORD_HEIGHT);
         planes = kg_u16(record + KG_RECORD_PLANES);
         objects = kg_u16(record + KG_RECORD_OBJECTS);
+        clear = record[KG_RECORD_TRANSPARENT];
         pixels_size = kg_pixels_size(width, height);
         masks_size = kg_masks_size(width, height, planes);
         number = kg_load(LENT);
@@ -115,10 +121,41 @@ static void make_calls(const char *path)
     fclose(file);
 }
 
+/* So many actors on a fresh frame, which a refused call leaves as it is. */
+static uint32_t painted(struct kg_actor *actors, size_t count)
+{
+    memcpy(frame, pixels, pixels_size);
+    return kg_cast(actors, count, frame, pixels_size, masks, masks_size, cast.pictures, cast.pictures_size, width, height, planes, clear);
+}
+
+/* Why the cast is refused: the first actor that is refused alone is named by its line; where none is, the list as a whole. */
+static void tell_refused(uint32_t number)
+{
+    char place[160] = "";
+    size_t i;
+    for (i = 0; i < cast.count && number != KG_CAST_TOO_LARGE; i++) {
+        struct kg_actor a = cast.actors[i];
+        if (painted(&a, 1) == KG_ACCEPTED) continue;
+        snprintf(place, sizeof place, ":%lu: actor %lu %ld %ld %ld %lu %lu %lu %lu", cast.lines[i], (unsigned long)a.id, (long)a.y, (long)a.left,
+                 (long)a.top, (unsigned long)a.width, (unsigned long)a.height, (unsigned long)a.clip, (unsigned long)a.start);
+        break;
+    }
+    fprintf(stderr, "%s: %s%s: refused %lu: %s", PROGRAM, cast.path, place, (unsigned long)number, kg_refusal_text(number));
+    if (number == KG_BUFFER_SHORT) fprintf(stderr, " (the pictures have %lu bytes)", (unsigned long)cast.pictures_size);
+    fprintf(stderr, "\n");
+}
+
+/* Without --cast the cast is empty, and the frame has the pixels alone. */
+static void paint_cast(void)
+{
+    uint32_t number = painted(cast.actors, cast.count);
+    if (number != KG_ACCEPTED) tell_refused(number);
+}
+
 static void colour_pixels(void)
 {
     size_t i;
-    for (i = 0; i < pixels_size; i++) memcpy(picture + 3 * i, palette + 3 * pixels[i], 3);
+    for (i = 0; i < pixels_size; i++) memcpy(picture + 3 * i, palette + 3 * frame[i], 3);
 }
 
 /* Half red, half the picture, where an actor of clip level k is hidden. */
@@ -175,9 +212,11 @@ int main(int argc, char **argv)
     struct options o = options_of(argc, argv);
     uint32_t object;
     take_palette(o.palette);
+    if (o.cast != NULL) take_cast(o.cast);
     load(o.room);
     if (o.plane > planes) stop(2, "--plane %lu: the room's planes are %lu in number", (unsigned long)o.plane, (unsigned long)planes);
     if (o.records != NULL) make_calls(o.records);
+    paint_cast();
     colour_pixels();
     if (o.plane != 0) tint_plane(o.plane);
     for (object = 1; o.boxes && object <= objects; object++) outline(object);
