@@ -2,6 +2,7 @@
 
 use crate::room::Room;
 use common::calls::*;
+use reference::cast::{self as casts, Record};
 use reference::{actor, compare as compares, load as loads, object, point, session as sessions};
 
 #[derive(Clone, Copy, PartialEq)]
@@ -169,5 +170,34 @@ pub fn stamp(side: Side, room: &Room, frame: &mut [u8], masks: &[u8], a: &actor:
             unsafe { kg_stamp(f, frame.len(), m, masks.len(), p, pn, w, h, n, a.width, a.height, a.x, a.y, a.clip, a.clear) }
         }
     };
+    assert_eq!(number, 0, "a stamp was refused");
+}
+
+/// What a cast is painted with, beside its list and its frame.
+pub struct Scenery<'a> {
+    pub masks: &'a [u8],
+    pub pictures: &'a [u8],
+    pub sizes: [u32; 3],
+    pub clear: u8,
+}
+
+pub fn cast(side: Side, list: &mut [Record], frame: &mut [u8], scenery: &Scenery) {
+    let Scenery { masks, pictures, sizes: [w, h, n], clear } = *scenery;
+    let number = match side {
+        Side::Reference => casts::cast(list, frame, masks, pictures, [w, h, n], clear),
+        Side::Library => {
+            let ((l, f), (m, p)) = ((list.as_mut_ptr().cast(), frame.as_mut_ptr()), (masks.as_ptr(), pictures.as_ptr()));
+            unsafe { kg_cast(l, list.len(), f, frame.len(), m, masks.len(), p, pictures.len(), w, h, n, clear) }
+        }
+    };
+    assert_eq!(number, 0, "a cast was refused");
+}
+
+/// The library's stamp of one actor of a cast.
+pub fn stamp_record(a: &Record, frame: &mut [u8], scenery: &Scenery) {
+    let Scenery { masks, pictures, sizes: [w, h, n], clear } = *scenery;
+    let picture = &pictures[a.start as usize..(a.start + a.width * a.height) as usize];
+    let ((f, m), (p, pn)) = ((frame.as_mut_ptr(), masks.as_ptr()), (picture.as_ptr(), picture.len()));
+    let number = unsafe { kg_stamp(f, frame.len(), m, masks.len(), p, pn, w, h, n, a.width, a.height, a.left, a.top, a.clip, clear) };
     assert_eq!(number, 0, "a stamp was refused");
 }

@@ -8,6 +8,9 @@ const MOST: f64 = 2.5;
 /// A comparison as a multiple of the two loads of its rooms.
 const MOST_LOADS: f64 = 1.25;
 
+/// A cast as a multiple of its single stamps over the list in order.
+const MOST_STAMPS: f64 = 1.1;
+
 /// The largest ratio seen, and where.
 #[derive(Default)]
 struct Worst {
@@ -38,6 +41,8 @@ pub struct Goals {
     reference: Worst,
     calls: Worst,
     compares: Worst,
+    casts: Worst,
+    sorted: Worst,
 }
 
 impl Goals {
@@ -57,10 +62,19 @@ impl Goals {
         self.call(times, &format!("compare, {place}"));
     }
 
+    /// The times of library, reference and the single stamps. A list that is in order needs no sorting, so its casts are a goal of their own.
+    pub fn cast(&mut self, times: &[f64; 3], in_order: bool, place: &str) {
+        let goal = if in_order { &mut self.casts } else { &mut self.sorted };
+        goal.see(times[0] / times[2], MOST_STAMPS, place);
+        self.call(times, &format!("cast, {place}"));
+    }
+
     pub fn print(&self) {
         self.pass.print(&format!("a load takes at most {MOST} unchecked passes"));
         self.reference.print("a load is never slower than the reference");
         self.calls.print("no other call is slower than the reference");
         self.compares.print(&format!("a comparison takes about two loads, at most {MOST_LOADS} times as long"));
+        self.casts.print(&format!("a cast takes at most {MOST_STAMPS} times its single stamps"));
+        self.sorted.print(&format!("also where its list is out of order, at most {MOST_STAMPS} times"));
     }
 }

@@ -8,6 +8,7 @@
 //! Before a thing is timed, its result is compared, byte by byte, with the reference's and for loads with the unchecked pass's too.
 
 mod calls;
+mod casts;
 mod clock;
 mod compares;
 mod count;
@@ -38,6 +39,7 @@ fn tables(effort: Effort) {
     steps::tables(effort, goals);
     growth::tables(effort, goals);
     compares::tables(effort, goals);
+    casts::tables(effort, goals);
     match effort {
         Effort::Full => goals.print(),
         Effort::Quick => println!("quick: all results agree; the times were taken once and mean little"),

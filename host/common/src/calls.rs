@@ -1,5 +1,7 @@
 //! The C interface, as include/kildegrom.h declares it. Nothing checks one against the other but the tests that call it.
 
+use std::ffi::c_void;
+
 extern "C" {
     pub fn kg_record(room: *const u8, room_size: usize, record: *mut u8, record_size: usize) -> u32;
     pub fn kg_load(
@@ -88,6 +90,21 @@ extern "C" {
         x: i32,
         y: i32,
         clip: u32,
+        clear: u8,
+    ) -> u32;
+    /// `cast` is a list of struct kg_actor, 32 bytes each, at a multiple of 4; `count` counts them.
+    pub fn kg_cast(
+        cast: *mut c_void,
+        count: usize,
+        frame: *mut u8,
+        frame_size: usize,
+        masks: *const u8,
+        masks_size: usize,
+        pictures: *const u8,
+        pictures_size: usize,
+        w: u32,
+        h: u32,
+        n: u32,
         clear: u8,
     ) -> u32;
     pub fn kg_start(

@@ -3,6 +3,7 @@
 
 pub mod actor;
 pub mod block;
+pub mod cast;
 pub mod compare;
 pub mod costume;
 pub mod image;
@@ -18,7 +19,7 @@ pub mod strip;
 pub mod table;
 pub mod write;
 
-/// The refusals (document 01, "Numbered refusals"; 16 is change request 1's).
+/// The refusals (document 01, "Numbered refusals"; 16 is change request 1's, 18 change request 7's).
 pub const TREE: u32 = 1;
 pub const NEEDED: u32 = 2;
 pub const SIZE: u32 = 3;
@@ -35,6 +36,7 @@ pub const NOTHING: u32 = 13;
 pub const OUTSIDE: u32 = 14;
 pub const ANIMATION: u32 = 15;
 pub const UNEQUAL: u32 = 16;
+pub const LARGE: u32 = 18;
 
 pub(crate) fn u16_at(bytes: &[u8], at: usize) -> usize {
     u16::from_le_bytes([bytes[at], bytes[at + 1]]) as usize
@@ -49,6 +51,8 @@ pub fn sizes_ok(w: usize, h: usize, n: usize) -> bool {
     w.is_multiple_of(8) && (8..=1024).contains(&w) && (1..=200).contains(&h) && n <= 4
 }
 
+#[cfg(test)]
+mod cast_rows;
 #[cfg(test)]
 mod compare_rows;
 #[cfg(test)]

@@ -7,7 +7,7 @@ use crate::room_scenes::lent;
 use crate::rooms::sizes;
 use reference::actor::Actor;
 
-const EDGES: [i32; 12] = [i32::MIN, i32::MIN + 1, -129, -128, -1, 0, 1, 127, 200, 1024, i32::MAX - 1, i32::MAX];
+pub const EDGES: [i32; 12] = [i32::MIN, i32::MIN + 1, -129, -128, -1, 0, 1, 127, 200, 1024, i32::MAX - 1, i32::MAX];
 
 /// Every point of a small room and its rim, under every clip.
 pub fn every_point(b: &mut Comparison, r: &mut Rng) {
@@ -36,7 +36,7 @@ pub fn questions(b: &mut Comparison, r: &mut Rng) {
 }
 
 /// The colour that isn't painted: 255 as in a room that says nothing else, 0, or any.
-fn any_clear(r: &mut Rng) -> u8 {
+pub fn any_clear(r: &mut Rng) -> u8 {
     match r.below(4) {
         0 => 255,
         1 => 0,
@@ -45,7 +45,7 @@ fn any_clear(r: &mut Rng) -> u8 {
 }
 
 /// A picture with many pixels that aren't painted, many of 255 and of 0.
-fn picture(r: &mut Rng, size: usize, clear: u8) -> Vec<u8> {
+pub fn picture(r: &mut Rng, size: usize, clear: u8) -> Vec<u8> {
     let (holes, ends) = (r.pick(&[1, 2, 3, 50]), r.pick(&[2, 4, 50]));
     let pixel = |r: &mut Rng| if r.once_in(ends) { r.pick(&[255, 0]) } else { r.byte() };
     (0..size).map(|_| if r.once_in(holes) { clear } else { pixel(r) }).collect()

@@ -1,7 +1,8 @@
 //! The C interface (include/kildegrom.h), each call beside the reference's.
 
-use crate::comparison::Comparison;
+use crate::comparison::{Comparison, CAST};
 use common::calls::*;
+use reference::cast::{self as casts, Record};
 use reference::{actor, compare as compares, costume, load as loads, object, session as sessions, write};
 
 /// A number alone, and a number with a value (docs/LAYOUTS.md, "Answers of two parts").
@@ -136,6 +137,55 @@ pub fn stamp(b: &mut Comparison, frame: &[u8], masks: &[u8], [w, h, n]: [u32; 3]
     let buffers = [("frame", frame), ("masks", masks), ("picture", a.picture)];
     let (answer, _, after) = b.case("stamp", &numbers, &buffers, library, |after| number(actor::stamp(&mut after[0], masks, w, h, n, a)));
     (answer, after.into_iter().next().expect("a frame"))
+}
+
+/// What a cast is painted with, beside its list and its frame.
+#[derive(Clone, Copy)]
+pub struct Setting<'a> {
+    pub masks: &'a [u8],
+    pub pictures: &'a [u8],
+    /// W, H and N.
+    pub sizes: [u32; 3],
+    pub clear: u8,
+}
+
+/// The records as the machine keeps them.
+fn bytes_of(list: &[Record]) -> Vec<u8> {
+    list.iter().flat_map(Record::bytes).collect()
+}
+
+fn records_of(bytes: &[u8]) -> Vec<Record> {
+    bytes.chunks_exact(casts::RECORD).map(|bytes| Record::read(bytes.try_into().expect("a record's bytes"))).collect()
+}
+
+/// W, H, N, the index and the records' fields, so that a failure tells its input. A list that is refused for its length is cut.
+fn cast_numbers(list: &[Record], setting: &Setting) -> Vec<i64> {
+    let [w, h, n] = setting.sizes;
+    let head = [w, h, n, setting.clear as u32].map(i64::from);
+    let fields = list.iter().take(casts::MOST + 2).flat_map(|a| {
+        let ([id, width, height], [clip, start]) = ([a.id, a.width, a.height].map(i64::from), [a.clip, a.start].map(i64::from));
+        let [y, left, top] = [a.y, a.left, a.top].map(i64::from);
+        [id, y, left, top, width, height, clip, start]
+    });
+    head.into_iter().chain(fields).collect()
+}
+
+/// A cast: its number, and list and frame after it.
+pub fn cast(b: &mut Comparison, list: &[Record], frame: &[u8], setting: &Setting) -> (u32, Vec<Record>, Vec<u8>) {
+    let Setting { masks, pictures, sizes: [w, h, n], clear } = *setting;
+    let (count, [f, m, p]) = (list.len(), [frame.len(), masks.len(), pictures.len()]);
+    let library = |at: &[*mut u8]| unsafe { kg_cast(at[0].cast(), count, at[1], f, at[2], m, at[3], p, w, h, n, clear) as u64 };
+    let numbers = cast_numbers(list, setting);
+    let bytes = bytes_of(list);
+    let buffers: [(&str, &[u8]); 4] = [(CAST, &bytes), ("frame", frame), ("masks", masks), ("pictures", pictures)];
+    let (answer, _, after) = b.case("cast", &numbers, &buffers, library, |after| {
+        let mut list = records_of(&after[0]);
+        let answer = casts::cast(&mut list, &mut after[1], masks, pictures, [w, h, n], clear);
+        after[0] = bytes_of(&list);
+        number(answer)
+    });
+    let [list, frame, ..] = <[Vec<u8>; 4]>::try_from(after).expect("list, frame, masks, pictures");
+    (answer, records_of(&list), frame)
 }
 
 /// Where a costume's offset table, with how many offsets, and its stream stand, as the caller gives it.

@@ -1,5 +1,6 @@
 //! Runs one call on the library and on the reference, compares every byte, and keeps the count.
 
+use crate::cast_count;
 use crate::clear_count::{self, Case};
 use crate::end_count::EndCount;
 use crate::lent::Slot;
@@ -11,7 +12,7 @@ use crate::shapes::{shapes, Shape};
 use std::collections::BTreeMap;
 use std::sync::atomic::{AtomicU64, AtomicUsize, Ordering::Relaxed};
 
-pub const CALLS: [&str; 18] = [
+pub const CALLS: [&str; 19] = [
     "record",
     "load",
     "draw_last",
@@ -24,6 +25,7 @@ pub const CALLS: [&str; 18] = [
     "name_number",
     "hidden",
     "stamp",
+    "cast",
     "start",
     "tick",
     "limb_draws",
@@ -32,9 +34,11 @@ pub const CALLS: [&str; 18] = [
     "write_plane",
 ];
 /// A full run must have reached them all.
-const NUMBERS: [u32; 17] = [0, 1, 2, 3, 4, 5, 6, 7, 8, 9, 10, 11, 12, 13, 14, 15, 16];
-/// A full run must have reached these of the comparison too, which alone gives 16.
-const COMPARED: [u32; 10] = [0, 1, 2, 3, 4, 5, 6, 7, 8, 16];
+const NUMBERS: [u32; 18] = [0, 1, 2, 3, 4, 5, 6, 7, 8, 9, 10, 11, 12, 13, 14, 15, 16, 18];
+/// A full run must have reached these of the comparison and of the cast too, which alone give 16 and 18.
+const OWN: [(&str, &[u32]); 2] = [("compare", &[0, 1, 2, 3, 4, 5, 6, 7, 8, 16]), ("cast", &[0, 3, 4, 18])];
+/// The name of a buffer that is a list of actors: it stands at a multiple of 4.
+pub const CAST: &str = "cast";
 
 /// Where a deliberate body is read. A full run must have reached them all in both.
 #[derive(Clone, Copy, Debug, PartialEq, Eq, PartialOrd, Ord)]
@@ -75,6 +79,8 @@ pub struct Comparison {
     pub pairs: PairCount,
     /// The same for the deliberate rooms and stamps with a transparent index.
     pub clears: Count<Case>,
+    /// The same for the deliberate casts.
+    pub casts: Count<cast_count::Case>,
     /// Whether a call's first buffer, its room, ends with its page; else it may stand anywhere. A scene begins without it.
     pub room_at_page_end: bool,
     differences: BTreeMap<String, u64>,
@@ -96,6 +102,7 @@ impl Comparison {
             ends: EndCount::default(),
             pairs: PairCount::default(),
             clears: Count::default(),
+            casts: Count::default(),
             room_at_page_end: false,
             differences: BTreeMap::new(),
         }
@@ -119,8 +126,9 @@ impl Comparison {
     /// Lends copies of the buffers.
     fn lend(&mut self, buffers: &[(&str, &[u8])]) -> Vec<*mut u8> {
         let mut pointers = Vec::new();
-        for (i, (slot, (_, bytes))) in self.slots.iter_mut().zip(buffers).enumerate() {
+        for (i, (slot, (name, bytes))) in self.slots.iter_mut().zip(buffers).enumerate() {
             let place = self.place.pick(&[0, 0, 0, 0, 1, 1, 2, 3, 5]);
+            let place = if *name == CAST && place > 1 { 4 * place } else { place };
             pointers.push(slot.lend(bytes, if i == 0 && self.room_at_page_end { 0 } else { place }));
         }
         pointers
@@ -212,11 +220,12 @@ impl Comparison {
         NUMBERS.into_iter().filter(|number| sum(*number) == 0).map(|number| number.to_string()).collect()
     }
 
-    /// The comparison's numbers that it never gave.
-    fn compared(&self) -> Vec<String> {
-        let index = CALLS.iter().position(|call| *call == "compare").expect("a call");
-        let missing = COMPARED.into_iter().filter(|number| !self.counts.contains_key(&(index, *number)));
-        missing.map(|number| format!("compare's {number}")).collect()
+    /// The numbers of `OWN` that the call never gave.
+    fn own(&self) -> Vec<String> {
+        let place = |name: &str| CALLS.iter().position(|call| *call == name).expect("a call");
+        let all = OWN.into_iter().flat_map(|(call, numbers)| numbers.iter().map(move |number| (call, *number)));
+        let missing = all.filter(|(call, number)| !self.counts.contains_key(&(place(call), *number)));
+        missing.map(|(call, number)| format!("{call}'s {number}")).collect()
     }
 
     /// The table of deliberate bodies, and those that weren't reached in both places.
@@ -241,6 +250,12 @@ impl Comparison {
         self.clears.report(&clear_count::planned())
     }
 
+    /// The table of deliberate casts, and those that weren't made.
+    fn casts(&self) -> Vec<String> {
+        println!("deliberate casts");
+        self.casts.report(&cast_count::planned())
+    }
+
     /// The tables, and whether all is well; a full run must have reached everything.
     pub fn report(&self, full: bool) -> bool {
         let mut missing = self.numbers();
@@ -248,9 +263,10 @@ impl Comparison {
             missing.extend(self.bodies());
             missing.extend(self.limbs());
             missing.extend(self.ends.report());
-            missing.extend(self.compared());
+            missing.extend(self.own());
             missing.extend(self.pairs.report());
             missing.extend(self.clears());
+            missing.extend(self.casts());
         }
         if full && !missing.is_empty() {
             println!("never reached: {missing:?}");

@@ -5,6 +5,7 @@ use std::ffi::c_void;
 extern "C" {
     fn mmap(at: *mut c_void, size: usize, protection: i32, flags: i32, file: i32, offset: i64) -> *mut c_void;
     fn mprotect(at: *mut c_void, size: usize, protection: i32) -> i32;
+    fn munmap(at: *mut c_void, size: usize) -> i32;
 }
 
 const PAGE: usize = 65_536;
@@ -74,5 +75,26 @@ impl Slot {
             return None;
         }
         (0..size).find(|i| memory[start + i] != want[*i]).map(|i| (i as i64, memory[start + i], want[i]))
+    }
+}
+
+/// Zeros that may be read and not written, more of them than there is memory: a page takes none before it is touched.
+pub struct Zeros {
+    pub at: *mut c_void,
+    size: usize,
+}
+
+impl Zeros {
+    pub fn new(size: usize) -> Zeros {
+        // PROT_READ, MAP_PRIVATE | MAP_ANONYMOUS | MAP_NORESERVE.
+        let at = unsafe { mmap(std::ptr::null_mut(), size, 1, 0x4022, -1, 0) };
+        assert!(at as isize != -1, "no addresses for {size} bytes");
+        Zeros { at, size }
+    }
+}
+
+impl Drop for Zeros {
+    fn drop(&mut self) {
+        unsafe { munmap(self.at, self.size) };
     }
 }

@@ -1,6 +1,6 @@
 //! Differential tests: the library's C interface against the reference.
 //!
-//!     tests [SEEDS]          seeds 0 to SEEDS − 1, the planned ends of bodies, pairs of rooms and transparent indexes, then the tables
+//!     tests [SEEDS]          seeds 0 to SEEDS − 1, the planned ends of bodies, pairs of rooms, transparent indexes and casts, then the tables
 //!     tests soak SECONDS     new seeds until the time is over, and the same
 //!     tests seed SEED        one seed again
 //!     tests room FILE        the calls on a room from a file
@@ -8,6 +8,13 @@
 
 mod actor_scenes;
 mod calls;
+mod cast_count;
+mod cast_faults;
+mod cast_keys;
+mod cast_laws;
+mod cast_refused;
+mod cast_scenes;
+mod casts;
 mod clear_blocks;
 mod clear_calls;
 mod clear_count;
@@ -57,10 +64,14 @@ const PAIRS: u64 = 3 << 62;
 /// A seed from here on is a planned scene with a transparent index. A full run takes each of them.
 const CLEARS: u64 = 7 << 61;
 
+/// A seed from here on is a planned scene with casts. A full run takes each of them.
+const CASTS: u64 = 15 << 60;
+
 fn run(b: &mut Comparison, seed: u64) {
     let mut r = b.scene(seed);
     let r = &mut r;
     match seed % 40 {
+        _ if seed >= CASTS => cast_scenes::planned(b, r, (seed - CASTS) as usize),
         _ if seed >= CLEARS => clear_scenes::planned(b, r, (seed - CLEARS) as usize),
         _ if seed >= PAIRS => compare_scenes::planned(b, r, (seed - PAIRS) as usize),
         _ if seed >= ENDS => end_scenes::planned(b, r, (seed - ENDS) as usize),
@@ -81,7 +92,8 @@ fn run(b: &mut Comparison, seed: u64) {
         22 if r.once_in(4) => actor_scenes::every_point(b, r),
         22 => actor_scenes::questions(b, r),
         23 if r.once_in(4) => actor_scenes::every_offset(b, r),
-        23 | 24 => actor_scenes::stamps(b, r),
+        23 => actor_scenes::stamps(b, r),
+        24 => cast_scenes::casts(b, r),
         25 | 26 => {
             costume_scenes::arbitrary(b, r);
             costume_scenes::questions(b, r);
@@ -152,6 +164,7 @@ fn main() {
         (ENDS..ENDS + ends::codes().len() as u64).for_each(|seed| run(b, seed));
         (PAIRS..PAIRS + pairs::planned().len() as u64).for_each(|seed| run(b, seed));
         (CLEARS..CLEARS + clear_count::scenes().len() as u64).for_each(|seed| run(b, seed));
+        (CASTS..CASTS + cast_count::scenes().len() as u64).for_each(|seed| run(b, seed));
     }
     if !b.report(full) {
         std::process::exit(1);
