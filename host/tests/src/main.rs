@@ -50,6 +50,7 @@ mod tree;
 mod writer_scenes;
 
 use comparison::Comparison;
+use rng::Rng;
 use std::time::{Duration, Instant, SystemTime};
 
 /// About 90 seconds on one core.
@@ -68,13 +69,19 @@ const CLEARS: u64 = 7 << 61;
 const CASTS: u64 = 15 << 60;
 
 fn run(b: &mut Comparison, seed: u64) {
-    let mut r = b.scene(seed);
-    let r = &mut r;
-    match seed % 40 {
-        _ if seed >= CASTS => cast_scenes::planned(b, r, (seed - CASTS) as usize),
-        _ if seed >= CLEARS => clear_scenes::planned(b, r, (seed - CLEARS) as usize),
-        _ if seed >= PAIRS => compare_scenes::planned(b, r, (seed - PAIRS) as usize),
-        _ if seed >= ENDS => end_scenes::planned(b, r, (seed - ENDS) as usize),
+    let r = &mut b.scene(seed);
+    match seed {
+        CASTS.. => cast_scenes::planned(b, r, (seed - CASTS) as usize),
+        CLEARS.. => clear_scenes::planned(b, r, (seed - CLEARS) as usize),
+        PAIRS.. => compare_scenes::planned(b, r, (seed - PAIRS) as usize),
+        ENDS.. => end_scenes::planned(b, r, (seed - ENDS) as usize),
+        _ => random(b, r, seed % 40),
+    }
+}
+
+/// A scene of one of 40 kinds, some of which are rare.
+fn random(b: &mut Comparison, r: &mut Rng, kind: u64) {
+    match kind {
         0..=5 => room_scenes::good(b, r),
         6 => compare_scenes::versions(b, r),
         7..=11 => room_scenes::damaged(b, r),
