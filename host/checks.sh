@@ -1,6 +1,6 @@
 # shellcheck shell=bash disable=SC2034 # some variables are only the scripts' own
-# What host/check-header and host/check-programs share: where they work, what a C program is compiled with, and how a failure is told. Each
-# reads this file first.
+# What the scripts host/check-header, -install, -programs, -pictures, -places and -scene share: where they work, what a C program is compiled
+# with, and how a failure is told. Each reads this file first.
 set -euo pipefail
 cd "$(dirname "$0")/.."
 unset MAKEFLAGS MAKELEVEL DESTDIR # `make test` and its caller set them for themselves
@@ -9,11 +9,14 @@ trap 'rm -rf "$scratch"' EXIT
 
 strict=(-Wall -Wextra -pedantic -Werror -O1 -g -fsanitize=address -fsanitize=undefined)
 library=target/staticlib/libkildegrom.a
+built=target/host/checked
 touch "$scratch/empty"
 head -c 100 rooms/cellar.room > "$scratch/cut"
 
 fail() { printf '%s: %s\n' "$0" "$1" >&2; exit 1; }
 skipped() { printf '%s: skipped: %s\n' "$0" "$1"; }
+
+build_programs() { make -s programs beside OUT="$built" CFLAGS="${strict[*]}" || fail "the programs can't be built"; }
 
 # pictures FILE PROGRAM: for each line of FILE, a checksum (cksum), a size and words, the picture that the program writes given these words.
 pictures() {

@@ -1,7 +1,7 @@
 #!/usr/bin/env python3
-"""Makes rooms/harbour.room and rooms/harbour.pal: a harbour at dusk, 320 x 144, two planes, six objects with images. And version B of the
-room, rooms/harbour-b.room, for ./compare: a crate stands elsewhere, the sign is repainted, the rope hides less, two objects have changed, and
-some strips of the background that are alike have other codes.
+"""Makes rooms/harbour.room and rooms/harbour.pal: a harbour at dusk, 320 x 144, two planes, six objects with images, and the palette in a CLUT
+block of the room and as a file. And version B of the room, rooms/harbour-b.room, for ./compare: a crate stands elsewhere, the sign is
+repainted, the rope hides less, two objects have changed, and some strips of the background that are alike have other codes.
 
 Run it from the repository's top folder: `python3 rooms/harbour.py [FOLDER]`; FOLDER stands for rooms. rooms/paint.py has what it paints and
 writes with.
@@ -387,7 +387,7 @@ def recoded(p, other):
 
 
 def room(p, strips=smap, kinds=OBJECTS):
-    return paint.room(W, H, paint.image(p, strips), kinds, 201, CLEAR)
+    return paint.room(W, H, paint.image(p, strips), kinds, 201, CLEAR, PALETTE)
 
 
 def room_b(a):

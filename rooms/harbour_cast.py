@@ -134,7 +134,7 @@ def files():
         p = draw()
         placed[name] = (p.w, p.h, len(pictures))
         pictures += b"".join(p.rows)
-    lines = ["# The harbour's cast: ./show rooms/harbour.room rooms/harbour.calls --cast rooms/harbour.cast --palette rooms/harbour.pal > cast.ppm",
+    lines = ["# The harbour's cast: ./show rooms/harbour.room rooms/harbour.calls --cast rooms/harbour.cast -o cast.png",
              "pictures harbour.pictures", "#     ID   Y LEFT TOP WIDTH HEIGHT CLIP START"]
     for number, y, left, clip, name, what in CAST:
         w, h, start = placed[name]

@@ -46,7 +46,7 @@ class Palette:
             self.colours += between(stops, count)
 
     def bytes(self):
-        """The file that ./show reads."""
+        """The file that ./show reads, and the payload of a CLUT."""
         return bytes(v for colour in self.colours for v in colour).ljust(768, b"\0")
 
     def shade(self, name, light, x=None, y=0):
@@ -111,15 +111,15 @@ def image(p, strips):
     return strips(p) + planes
 
 
-def room(w, h, picture, kinds, first, clear, head=b""):
+def room(w, h, picture, kinds, first, clear, palette, head=b""):
     """A room of two planes. Of each object: name, picture of a state, states, strip position, size in strips, what else its header has. Their
-    ids count from `first`; `head` are blocks behind RMHD."""
+    ids count from `first`; `head` are blocks behind RMHD, and behind them the palette's CLUT."""
     images, objects = b"", b""
     for number, (name, draw, states, (x, y), (strips, rows), rest) in enumerate(kinds, first):
         bodies = b"".join(block(b"IM%02d" % s, image(draw(s), lambda p: smap(p, clear))) for s in range(1, states + 1))
         images += block(b"OBIM", imhd(number, states, 8 * x, 8 * y, 8 * strips, 8 * rows) + bodies)
         objects += obcd(number, name, x=x, y=y, w=strips, h=rows, **rest)
-    return block(b"ROOM", rmhd(w, h, len(kinds)) + head + rmim(2, picture) + images + objects)
+    return block(b"ROOM", rmhd(w, h, len(kinds)) + head + block(b"CLUT", palette.bytes()) + rmim(2, picture) + images + objects)
 
 
 def stop(script, why):

@@ -1,6 +1,7 @@
 #!/usr/bin/env python3
-"""Makes rooms/winter.room and rooms/winter.pal: a snowed-in cottage at night, 320 x 144, two planes, four objects with images. Its snow is
-colour 255, so the room has a transparent index of its own, 7, in a TRNS block. In the background 7 is the ink, and painted.
+"""Makes rooms/winter.room and rooms/winter.pal: a snowed-in cottage at night, 320 x 144, two planes, four objects with images, and the palette
+in a CLUT block of the room and as a file. Its snow is colour 255, so the room has a transparent index of its own, 7, in a TRNS block. In
+the background 7 is the ink, and painted.
 
 Run it from the repository's top folder: `python3 rooms/winter.py [FOLDER]`; FOLDER stands for rooms. rooms/paint.py has what it paints and
 writes with.
@@ -216,7 +217,8 @@ OBJECTS = (  # name, picture of a state, states, strip position, size in strips,
 
 
 def files():
-    room = paint.room(W, H, paint.image(background(), lambda p: paint.smap(p, CLEAR)), OBJECTS, 301, CLEAR, block(b"TRNS", bytes([CLEAR, 0])))
+    picture = paint.image(background(), lambda p: paint.smap(p, CLEAR))
+    room = paint.room(W, H, picture, OBJECTS, 301, CLEAR, PALETTE, block(b"TRNS", bytes([CLEAR, 0])))
     return ("winter.room", room), ("winter.pal", PALETTE.bytes())
 
 

@@ -1,5 +1,5 @@
-# shellcheck shell=bash disable=SC2154 # the variables are the program's
-# What ./list, ./play, ./show, ./compare and tools/calls share. Each sets `name`, its name in messages, `self`, its own file, and, but for
+# shellcheck shell=bash disable=SC2034,SC2154 # the variables are the program's too
+# What the programs of the top folder and tools/calls share. Each sets `name`, its name in messages, `self`, its own file, and, but for
 # tools/calls, `top`, the repository's folder, then reads this file. The comment at the head of `self` is its help: the first line is the
 # usage.
 
@@ -32,11 +32,34 @@ need_file() {
     [ -r "$1" ] || stop 2 "the file can't be read: $1"
 }
 
-# The exit status where standard output can't be written; ./compare has another.
+# The exit status where standard output can't be written or a proof fails; ./compare has another.
 unwritten=1
 
 # Told before anything is proved.
 need_output() { { true 3>&1; } 2> /dev/null || stop "$unwritten" "standard output is closed"; }
+
+# Whether `picture` can be a picture's file, as far as that is known before anything is proved. It replaces none of the `files` and of what is
+# `read_too`.
+need_picture() {
+    local file folder
+    [ -n "$picture" ] || wrong_usage
+    [ ! -d "$picture" ] || stop 2 "a folder, not a file: $picture"
+    folder=$(dirname -- "$picture")
+    [ -d "$folder" ] || stop 2 "no such folder: $folder"
+    if [ -e "$picture" ]; then folder=$picture; fi
+    [ -w "$folder" ] || stop "$unwritten" "the picture can't be written: $picture"
+    for file in "${files[@]}" ${read_too[@]+"${read_too[@]}"}; do
+        [ ! "$picture" -ef "$file" ] || stop 2 "the picture would replace a file that is read: $file"
+    done
+}
+
+# ready FILE CRATE COMMAND...: sets `program` to FILE, which the command builds; standard error has the crates that are proved for it. An
+# installed tree has no crates and builds nothing: there the programs stand in bin/, beside the scripts.
+ready() {
+    program=$top/$1
+    if [ ! -e "$top/crates.txt" ]; then program=$top/bin/${1##*/}; return; fi
+    "$top/tools/progress" "${@:2}" || exit "$unwritten"
+}
 
 # copy_room FILE COPY: the bytes that the proved program is given. It takes 65,536; one more tells it, and us, that there are more.
 copy_room() {

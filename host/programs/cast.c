@@ -1,33 +1,23 @@
-/* The list of a cast, as show reads it: text, a line `pictures FILE`, then a line `actor ID Y LEFT TOP WIDTH HEIGHT CLIP START` for each actor.
- * Blank lines, and `#` with what follows it, are passed over; lines may end with CR LF, and the mark of UTF-8 may stand at the start. A wrong
- * line ends the program with status 2 and its file, line, form and word. How many actors a cast may have is the library's to say. */
-#ifndef CAST_H
-#define CAST_H
+/* The list of a cast. */
+#include "cast.h"
 
-#include "../programs.h"
+#include "files.h"
+#include "message.h"
+
+#include <stdio.h>
+#include <string.h>
 
 #define PICTURES_FORM "pictures FILE"
 #define ACTOR_FORM "actor ID Y LEFT TOP WIDTH HEIGHT CLIP START"
-#define SHORTEST_ACTOR "actor 0 0 0 0 0 0 0 0\n"
 
 /* A word in a message: the first 40 bytes of a long one. */
 #define QUOTED "\"%.40s%s\""
 #define QUOTE(word) (word), strlen(word) > 40 ? "..." : ""
 
-enum { MOST_LIST = 65536, MOST_PICTURES = 1 << 24, MOST_ACTORS = (MOST_LIST + 1) / (sizeof SHORTEST_ACTOR - 1), FIELDS = 8 };
+enum { FIELDS = 8 };
 
-/* A cast as its list has it, with the line of each actor. One byte more than pictures may have, so that a longer file is told from them. */
-struct cast {
-    const char *path;
-    size_t count, pictures_size;
-    struct kg_actor actors[MOST_ACTORS];
-    unsigned long lines[MOST_ACTORS];
-    uint8_t pictures[MOST_PICTURES + 1];
-    int pictured; /* the pictures' line has been read */
-};
-
-static struct cast cast;
-static char cast_text[MOST_LIST + 2]; /* one byte more, as above, and a closing NUL */
+struct cast cast;
+static char cast_text[MOST_LIST + 2]; /* one byte more, so that a longer list is told, and a closing NUL */
 
 /* The fields of an actor in their order; the signed ones are i32, the others u32. */
 static const struct { const char *name; int is_signed; } actor_fields[FIELDS] = {
@@ -88,7 +78,7 @@ static void take_actor(unsigned long line, char *rest)
 /* The name is the rest of the line, so that it may hold blanks. The file stands beside the list, unless its path is absolute. */
 static void take_pictures(unsigned long line, char *name)
 {
-    char path[4096];
+    char *path = cast.pictures_path;
     const char *slash = strrchr(cast.path, '/');
     size_t length;
     int folder;
@@ -97,8 +87,8 @@ static void take_pictures(unsigned long line, char *name)
     if (length == 0) stop(2, "%s:%lu: " PICTURES_FORM ": FILE is missing", cast.path, line);
     if (cast.pictured) stop(2, "%s:%lu: " PICTURES_FORM ": " QUOTED " is the second file", cast.path, line, QUOTE(name));
     folder = name[0] == '/' || slash == NULL ? 0 : (int)(slash - cast.path) + 1;
-    if (length + (size_t)folder >= sizeof path) stop(2, "%s:%lu: " PICTURES_FORM ": the path is too long", cast.path, line);
-    snprintf(path, sizeof path, "%.*s%s", folder, cast.path, name);
+    if (length + (size_t)folder >= sizeof cast.pictures_path) stop(2, "%s:%lu: " PICTURES_FORM ": the path is too long", cast.path, line);
+    snprintf(path, sizeof cast.pictures_path, "%.*s%s", folder, cast.path, name);
     cast.pictures_size = read_file(path, cast.pictures, sizeof cast.pictures);
     if (cast.pictures_size > MOST_PICTURES) stop(2, "pictures have at most 16,777,216 bytes: %s", path);
     cast.pictured = 1;
@@ -122,7 +112,7 @@ static void take_line(unsigned long line, char *text, size_t length)
     else stop(2, "%s:%lu: " QUOTED " is no line of a cast: the lines are " PICTURES_FORM ", " ACTOR_FORM, cast.path, line, QUOTE(word));
 }
 
-static void take_cast(const char *path)
+void take_cast(const char *path)
 {
     size_t size = read_file(path, (uint8_t *)cast_text, MOST_LIST + 1), at = 0;
     unsigned long line;
@@ -136,5 +126,3 @@ static void take_cast(const char *path)
         at += length + 1;
     }
 }
-
-#endif
