@@ -1,8 +1,9 @@
 //! Objects with their images (document 01, "Blocks" and "Sessions"; source 003 for CDHD and IMHD).
 
 use crate::block::{children, first, Block};
+use crate::fault::Fault;
 use crate::room::{needed, Room};
-use crate::{mask, strip, table, u16_at};
+use crate::{mask, strip, u16_at};
 
 /// An object: CDHD's bytes and, "the first OBIM of equal id, if any", its image.
 pub struct Object<'a> {
@@ -14,7 +15,7 @@ pub struct Object<'a> {
 #[derive(Clone, Copy)]
 pub struct Image<'a> {
     imhd: &'a [u8],
-    obim: Block,
+    pub obim: Block,
 }
 
 impl Image<'_> {
@@ -26,9 +27,14 @@ impl Image<'_> {
         (u16_at(self.imhd, 12), u16_at(self.imhd, 14))
     }
 
+    /// numImages.
+    pub fn images(&self) -> usize {
+        u16_at(self.imhd, 2)
+    }
+
     /// "state s (1 to 9, up to numImages, block IM0s present, else 11)": that block.
     pub fn state(&self, bytes: &[u8], s: usize) -> Option<Block> {
-        let known = (1..=9).contains(&s) && s <= u16_at(self.imhd, 2);
+        let known = (1..=9).contains(&s) && s <= self.images();
         known.then(|| first(bytes, self.obim, format!("IM0{s}").as_bytes())).flatten()
     }
 }
@@ -53,20 +59,19 @@ pub fn objects<'a>(bytes: &'a [u8], room: &Room) -> Vec<Object<'a>> {
 }
 
 /// One state's strips, `im` being its IM0s block: "2 and 5 to 8 for an object's image, SMAP before its planes as for the room".
-pub fn strips(bytes: &[u8], room: &Room, im: Block, (width, height): (usize, usize)) -> Result<Vec<Strip>, u32> {
+pub fn read(bytes: &[u8], room: &Room, im: Block, (width, height): (usize, usize)) -> Result<Vec<Strip>, Fault> {
     let smap = needed(bytes, im, b"SMAP", 0)?;
     let mut strips = Vec::new();
-    for body in table::bodies(smap.bytes(bytes), width / 8, 4)? {
-        let body = body.expect("every SMAP strip has a body");
+    for (code, pixels) in strip::strips(bytes, smap, width / 8, height)? {
         // "An entry's pixel is transparent if its code is a transparent one and its value is" the room's transparent index, which "replaces 255 in
         // document 01's painting rule" (change request 9).
-        let shows = |pixel: u8| !strip::is_transparent(body[0]) || pixel != room.clear;
-        let pixels = strip::pixels(body, height)?.into_iter().map(|pixel| shows(pixel).then_some(pixel)).collect();
+        let shows = |pixel: u8| !strip::is_transparent(code) || pixel != room.clear;
+        let pixels = pixels.into_iter().map(|pixel| shows(pixel).then_some(pixel)).collect();
         strips.push(Strip { pixels, planes: vec![] });
     }
     for k in 1..=room.n {
         let plane = match first(bytes, im, format!("ZP0{k}").as_bytes()) {
-            Some(block) => mask::plane(block.bytes(bytes), width / 8, height)?,
+            Some(block) => mask::plane(bytes, block, width / 8, height)?,
             None => vec![0; width / 8 * height],
         };
         for (s, strip) in strips.iter_mut().enumerate() {
@@ -74,4 +79,9 @@ pub fn strips(bytes: &[u8], room: &Room, im: Block, (width, height): (usize, usi
         }
     }
     Ok(strips)
+}
+
+/// The same with the number alone.
+pub fn strips(bytes: &[u8], room: &Room, im: Block, size: (usize, usize)) -> Result<Vec<Strip>, u32> {
+    read(bytes, room, im, size).map_err(|fault| fault.number())
 }

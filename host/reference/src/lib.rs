@@ -6,7 +6,9 @@ pub mod block;
 pub mod cast;
 pub mod compare;
 pub mod costume;
+pub mod fault;
 pub mod image;
+pub mod inspect;
 pub mod load;
 pub mod mask;
 pub mod object;
@@ -17,6 +19,7 @@ pub mod session;
 pub mod step;
 pub mod strip;
 pub mod table;
+pub mod tree;
 pub mod write;
 
 /// The refusals (document 01, "Numbered refusals"; 16 is change request 1's, 18 change request 7's).
@@ -48,7 +51,19 @@ pub(crate) fn u32_at(bytes: &[u8], at: usize) -> usize {
 
 /// Document 01, "Sizes": W a multiple of 8 from 8 to 1,024, H from 1 to 200, N from 0 to 4.
 pub fn sizes_ok(w: usize, h: usize, n: usize) -> bool {
-    w.is_multiple_of(8) && (8..=1024).contains(&w) && (1..=200).contains(&h) && n <= 4
+    width_ok(w) && height_ok(h) && planes_ok(n)
+}
+
+pub fn width_ok(w: usize) -> bool {
+    w.is_multiple_of(8) && (8..=1024).contains(&w)
+}
+
+pub fn height_ok(h: usize) -> bool {
+    (1..=200).contains(&h)
+}
+
+pub fn planes_ok(n: usize) -> bool {
+    n <= 4
 }
 
 #[cfg(test)]
@@ -57,6 +72,8 @@ mod cast_rows;
 mod compare_rows;
 #[cfg(test)]
 mod limb_rows;
+#[cfg(test)]
+mod place_rows;
 #[cfg(test)]
 mod rows;
 #[cfg(test)]

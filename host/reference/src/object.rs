@@ -24,17 +24,25 @@ pub fn header(room: &[u8], header: &mut [u8], object: u32) -> u32 {
     }
 }
 
-/// "OBNA up to its first NUL or its end, `@` kept, empty if there is no OBNA": number, start and length. An empty name without OBNA,
-/// or a refused one, is 0 and 0; one with OBNA stands where OBNA's payload does.
+/// "OBNA up to its first NUL or its end, `@` kept, empty if there is no OBNA": start and length. An empty name without OBNA is 0 and 0; one with OBNA
+/// stands where OBNA's payload does.
+pub fn name_of(room: &[u8], obcd: Block) -> (usize, usize) {
+    match first(room, obcd, b"OBNA") {
+        None => (0, 0),
+        Some(obna) => {
+            let text = obna.payload(room);
+            (obna.start + 8, text.iter().position(|byte| *byte == 0).unwrap_or(text.len()))
+        }
+    }
+}
+
+/// The name's number, start and length; 0 and 0 where it is refused.
 pub fn name(room: &[u8], object: u32) -> (u32, usize, usize) {
     match test(room, |_| true).and_then(|painted| object_at(&painted.room, object)) {
         Err(number) => (number, 0, 0),
-        Ok(obcd) => match first(room, obcd, b"OBNA") {
-            None => (0, 0, 0),
-            Some(obna) => {
-                let text = obna.payload(room);
-                (0, obna.start + 8, text.iter().position(|byte| *byte == 0).unwrap_or(text.len()))
-            }
-        },
+        Ok(obcd) => {
+            let (start, length) = name_of(room, obcd);
+            (0, start, length)
+        }
     }
 }

@@ -1,5 +1,6 @@
 //! Document 01, "Worked rows", those that change request 5 adds, and source 000's 39-byte strip.
 
+use crate::block::Block;
 use crate::{mask, strip, write};
 
 #[test]
@@ -7,7 +8,7 @@ fn worked_rows() {
     let masks = [0x83, 0, 3, 1, 2, 3];
     assert_eq!(mask::rows(&masks, 6), Ok(vec![0, 0, 0, 1, 2, 3]));
     assert_eq!(write::mask(&[0, 0, 0, 1, 2, 3]), masks);
-    assert_eq!(mask::plane(&[b"ZP01\0\0\0\x0A".as_slice(), &[0, 0]].concat(), 1, 3), Ok(vec![0; 3]));
+    assert_eq!(mask::plane(b"ZP01\0\0\0\x0A\0\0", Block { start: 0, end: 10 }, 1, 3), Ok(vec![0; 3]));
     let third = [0x1C, 5, 0xB6, 0x97, 0, 0];
     let pixels = [vec![5, 5, 4, 3, 4, 9], vec![9; 10]].concat();
     assert_eq!(strip::pixels(&third, 2), Ok(pixels.clone()));

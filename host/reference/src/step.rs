@@ -56,6 +56,12 @@ pub fn moved_to(history: &[Step], object: usize) -> Option<(usize, usize)> {
     })
 }
 
+/// Refusal 12: "x or image width not a multiple of 8, a zero size, or a box not wholly in the room".
+pub fn allowed(room: &Room, (x, y): (usize, usize), (width, height): (usize, usize)) -> bool {
+    let inside = x + width <= room.w && y + height <= room.h;
+    x.is_multiple_of(8) && width.is_multiple_of(8) && width > 0 && height > 0 && inside
+}
+
 impl<'a> Scene<'a> {
     /// The whole test of the room; `lent` says whether the call's buffers are long enough.
     pub fn new(bytes: &'a [u8], lent: impl FnOnce(&Room) -> bool) -> Result<Scene<'a>, u32> {
@@ -70,12 +76,6 @@ impl<'a> Scene<'a> {
         moved_to(history, object).unwrap_or_else(own)
     }
 
-    /// Refusal 12: "x or image width not a multiple of 8, a zero size, or a box not wholly in the room".
-    fn allowed(&self, (x, y): (usize, usize), (width, height): (usize, usize)) -> bool {
-        let inside = x + width <= self.ground.room.w && y + height <= self.ground.room.h;
-        x.is_multiple_of(8) && width.is_multiple_of(8) && width > 0 && height > 0 && inside
-    }
-
     /// 11, 12, then the image's own refusals.
     fn entry(&self, history: &[Step], object: usize, state: usize, place: Place) -> Result<Entry, u32> {
         let image = object.checked_sub(1).and_then(|i| self.objects.get(i)?.image).ok_or(NO_OBJECT)?;
@@ -85,7 +85,7 @@ impl<'a> Scene<'a> {
             Place::Last => self.last_place(history, object),
         };
         let size = image.size();
-        if !self.allowed(place, size) {
+        if !allowed(&self.ground.room, place, size) {
             return Err(PLACE);
         }
         let read = || image::strips(self.bytes, &self.ground.room, im, size).map(Rc::new);

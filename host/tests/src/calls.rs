@@ -1,6 +1,7 @@
 //! The C interface (include/kildegrom.h), each call beside the reference's.
 
 use crate::comparison::{Comparison, CAST};
+use crate::place_scenes;
 use common::calls::*;
 use reference::cast::{self as casts, Record};
 use reference::{actor, compare as compares, costume, load as loads, object, session as sessions, write};
@@ -21,7 +22,12 @@ fn word(answer: Result<usize, u32>) -> (u32, u64) {
 pub fn record(b: &mut Comparison, room: &[u8], record: &[u8]) -> (u32, Vec<u8>) {
     let library = |p: &[*mut u8]| unsafe { kg_record(p[0], room.len(), p[1], record.len()) as u64 };
     let buffers = [("room", room), ("record", record)];
-    let (answer, _, mut after) = b.case("record", &[], &buffers, library, |after| number(loads::record(room, &mut after[1])));
+    let mut judged = Ok(());
+    let (answer, _, mut after) = b.case("record", &[], &buffers, library, |after| {
+        judged = loads::try_record(room, &mut after[1]);
+        number(loads::number(judged))
+    });
+    place_scenes::judged(b, "record", room, judged);
     (answer, after.pop().unwrap())
 }
 
@@ -29,10 +35,13 @@ pub fn record(b: &mut Comparison, room: &[u8], record: &[u8]) -> (u32, Vec<u8>) 
 pub fn load(b: &mut Comparison, room: &[u8], session: &[u8], pixels: &[u8], masks: &[u8]) -> (u32, [Vec<u8>; 3]) {
     let library = |p: &[*mut u8]| unsafe { kg_load(p[0], room.len(), p[1], session.len(), p[2], pixels.len(), p[3], masks.len()) as u64 };
     let buffers = [("room", room), ("session", session), ("pixels", pixels), ("masks", masks)];
+    let mut judged = Ok(());
     let (answer, _, after) = b.case("load", &[], &buffers, library, |after| {
         let [_, session, pixels, masks] = after else { unreachable!() };
-        number(loads::load(room, session, pixels, masks))
+        judged = loads::try_load(room, session, pixels, masks);
+        number(loads::number(judged))
     });
+    place_scenes::judged(b, "load", room, judged);
     (answer, surfaces(after))
 }
 
@@ -92,6 +101,7 @@ pub fn turn(b: &mut Comparison, turn: Turn, room: &[u8], lent: &[Vec<u8>; 3]) ->
             Turn::TakeBack => sessions::take_back(room, session, pixels, masks),
         })
     });
+    place_scenes::drawn(b, turn, room, &lent[0], answer);
     (answer, surfaces(after))
 }
 

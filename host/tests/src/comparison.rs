@@ -6,6 +6,7 @@ use crate::end_count::EndCount;
 use crate::lent::Slot;
 use crate::limbs::{self, Kind, Question};
 use crate::pair_count::PairCount;
+use crate::place_count;
 use crate::planned::Count;
 use crate::rng::Rng;
 use crate::shapes::{shapes, Shape};
@@ -81,6 +82,8 @@ pub struct Comparison {
     pub clears: Count<Case>,
     /// The same for the deliberate casts.
     pub casts: Count<cast_count::Case>,
+    /// How often the place of each kind of fault was told as it must be.
+    pub places: Count<place_count::Case>,
     /// Whether a call's first buffer, its room, ends with its page; else it may stand anywhere. A scene begins without it.
     pub room_at_page_end: bool,
     differences: BTreeMap<String, u64>,
@@ -103,6 +106,7 @@ impl Comparison {
             pairs: PairCount::default(),
             clears: Count::default(),
             casts: Count::default(),
+            places: Count::default(),
             room_at_page_end: false,
             differences: BTreeMap::new(),
         }
@@ -256,6 +260,12 @@ impl Comparison {
         self.casts.report(&cast_count::planned())
     }
 
+    /// The table of the places of faults, and the kinds that were never told.
+    fn places(&self) -> Vec<String> {
+        println!("places of faults: {}", self.places.counts.values().sum::<u64>());
+        self.places.report(&place_count::planned())
+    }
+
     /// The tables, and whether all is well; a full run must have reached everything.
     pub fn report(&self, full: bool) -> bool {
         let mut missing = self.numbers();
@@ -267,6 +277,7 @@ impl Comparison {
             missing.extend(self.pairs.report());
             missing.extend(self.clears());
             missing.extend(self.casts());
+            missing.extend(self.places());
         }
         if full && !missing.is_empty() {
             println!("never reached: {missing:?}");

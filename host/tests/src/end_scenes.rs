@@ -6,9 +6,10 @@ use crate::comparison::{Comparison, Place};
 use crate::end_count::{Case, Spot, SPOTS};
 use crate::ends::{codes, ends_of, method, End, Ending, Size, ANY, LONG, SHORT};
 use crate::rng::Rng;
-use crate::rooms;
 use crate::strips::{any_code, pixel_body, Fault, Strips};
 use crate::tree::{container, leaf, Node};
+use crate::{place_scenes, rooms};
+use reference::fault::Cause;
 
 /// Good bodies beside the deliberate one: one before it, or none, and one that a reader comes to if it goes on behind it.
 struct Beside {
@@ -89,10 +90,21 @@ impl Scene<'_> {
         if number != end.number(change) {
             return b.differ(call, "reads a deliberate end otherwise", &text());
         }
+        if number != 0 && self.told(&room) != self.ending.stops_in(body.len()) {
+            return b.differ(call, "has another operation told than the one that a deliberate end stops in", &text());
+        }
         if number == 0 && *self.painted.get_or_insert_with(|| painted.clone()) != painted {
             return b.differ(call, "paints unused bytes", &text());
         }
         self.count(b, body.len(), change, room.len());
+    }
+
+    /// The operation that the reference tells, and the bit at which it begins.
+    fn told(&self, room: &[u8]) -> Option<(usize, usize)> {
+        match place_scenes::first_fault(room)?.cause {
+            Cause::Strip { stop, .. } if stop.operation > 0 => Some((stop.operation, stop.begins)),
+            _ => None,
+        }
     }
 
     /// Counts a body that was read as it must be.

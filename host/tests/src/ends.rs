@@ -131,6 +131,15 @@ impl Ending {
     }
 }
 
+impl Ending {
+    /// The operation that a reader of `length` bytes comes to last, counted from 1, and the bit at which it begins: the one that is cut, or the run past
+    /// the strip's end. None where the colour is missing too.
+    pub fn stops_in(&self, length: usize) -> Option<(usize, usize)> {
+        let i = self.begins.iter().rposition(|(begins, _)| *begins <= 8 * length)?;
+        Some((i + 1, self.begins[i].0))
+    }
+}
+
 impl End {
     pub fn name(self) -> String {
         format!("code {:02X}, last bit {}, last operation {:?}", self.code, self.bit, self.last)

@@ -35,6 +35,10 @@ mod maker;
 mod pair_count;
 mod pair_rooms;
 mod pairs;
+mod place_count;
+mod place_scenes;
+mod place_strips;
+mod places;
 mod planned;
 mod point_scenes;
 mod recode;
@@ -93,6 +97,7 @@ fn random(b: &mut Comparison, r: &mut Rng, kind: u64) {
         20 if r.once_in(8) => room_scenes::every_cut(b, r),
         20 if r.once_in(8) => end_scenes::any_end(b, r),
         20 if r.once_in(4) => clear_scenes::any(b, r),
+        20 if r.once_in(2) => place_scenes::images(b, r),
         21 if r.once_in(40) => room_scenes::at_the_limit(b, r),
         21 if r.once_in(2) => shape_scenes::every_shape(b, r),
         20 | 21 => room_scenes::damaged(b, r),
