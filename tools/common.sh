@@ -53,6 +53,9 @@ need_picture() {
     done
 }
 
+# What the program is built with, told before its crates are proved; an installed program is built already.
+need_packages() { [ ! -e "$top/crates.txt" ] || "$top/tools/need" "$@" || exit "$unwritten"; }
+
 # ready FILE CRATE COMMAND...: sets `program` to FILE, which the command builds; standard error has the crates that are proved for it. An
 # installed tree has no crates and builds nothing: there the programs stand in bin/, beside the scripts.
 ready() {
