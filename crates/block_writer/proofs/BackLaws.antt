@@ -3,10 +3,10 @@
 use mathlib.Core.Path.{_≡_, refl, sym, ap, ap₂, _∙_, subst}
 use mathlib.Core.Bool.{Bool, true, false, cond}
 use mathlib.Core.List.{List}
-use Prim.Native.Nat.{ℕ, zero, suc, _+_, _*_, _/_, _%_, _≤_, _<_, zero-le}
+use Prim.Native.Nat.{ℕ, _+_, _*_, _/_, _%_, _≤_, _<_}
 use native.Mathlib.Nat.{one-mul, div-one, mod-one}
 use native.Mathlib.Omega.{arith}
-use lib.ListN.{length, getD, replicate, length-append, List·getD-eq-default}
+use lib.ListN.{length, getD, replicate, List·getD-eq-default}
 use lib.Dec.{lit<, ltb, eqb}
 use borrow.Author.Tests.{ltb-true, ltb-false, eq-eqb, ne-eqb}
 use Rattle.strip.specs.Strip.{values}
@@ -17,11 +17,11 @@ use Rattle.table.specs.Table.{offsetAt}
 use Rattle.table.specs.Body.{bodyOf, stripAt, rowsAt}
 use Rattle.strip_writer.specs.Rows.{rowsBody}
 use Rattle.strip_writer.proofs.PixelLaws.{Bytes, strip-back}
-use Rattle.strip_writer.proofs.RowLaws.{Back, none, some, rows-back, length-rows}
+use Rattle.strip_writer.proofs.RowLaws.{Back, none, some, rows-back}
 use Rattle.strip_writer.proofs.WritingLaws.{length-strip}
-use Rattle.block_writer.specs.Block.{placeOf, stripBytes, pixelsOfStrip, rowsOfStrip, bodyFor, bodiesFrom, sizeOf, smapTag, smapBlock}
+use Rattle.block_writer.specs.Block.{placeOf, stripBytes, pixelsOfStrip, rowsOfStrip, bodyFor, sizeOf, smapTag, smapBlock}
 use Rattle.block_writer.proofs.StripBytesLaws.{length-strip-bytes}
-use Rattle.block_writer.proofs.BoundLaws.{body-few}
+use Rattle.block_writer.proofs.BoundLaws.{pixels-body-few, rows-body-few, sum-few}
 use Rattle.block_writer.proofs.CallLaws.{length-block}
 use Rattle.block_writer.proofs.PlacedLaws.{most, startOf, Placed, none-is, offset-is, body-is}
 
@@ -57,28 +57,10 @@ row-at n h k y rows hy =
 
 -- ---- the offsets can hold the places: at most 520 + 128 * 2,048 bytes of an SMAP, and 264 + 128 * 400 < 65,536 of a ZP
 
-abbrev bound : Bool → ℕ
-bound false = 2048
-bound true = 400
-
-bound-more : (mask : Bool) (m : ℕ) → bound mask + bound mask * m ≡ bound mask * suc m
-bound-more true m = omega arith
-bound-more false m = omega arith
-
-sum-few : (mask : Bool) (f : ℕ → List ℕ) → ((k : ℕ) → length (f k) ≤ bound mask) → (k m : ℕ) → length (bodiesFrom f k m) ≤ bound mask * m
-unfolding bodiesFrom
-sum-few mask f few k zero = zero-le
-sum-few mask f few k (suc m) = omega (arith, length-append (f k) (bodiesFrom f (k + 1) m), few k, sum-few mask f few (k + 1) m, bound-more mask m)
-
-bodies-few : (mask : Bool) (n h : ℕ) (rows : List ℕ) → 1 ≤ h → h ≤ 200 → (k : ℕ) → length (bodyFor mask n h rows k) ≤ bound mask
-unfolding bodyFor
-bodies-few false n h rows one high k = body-few false n h rows k one high
-bodies-few true n h rows one high k = omega (arith, length-rows (rowsOfStrip n h rows k), length-strip-bytes 1 n h rows k)
-
 pub size-few : (mask : Bool) (n h : ℕ) (rows : List ℕ) → 1 ≤ h → h ≤ 200 → n ≤ 128 → sizeOf mask n (bodyFor mask n h rows) < most mask
 unfolding sizeOf
-size-few false n h rows one high few = omega (arith, sum-few false (bodyFor false n h rows) (bodies-few false n h rows one high) 0 n)
-size-few true n h rows one high few = omega (arith, sum-few true (bodyFor true n h rows) (bodies-few true n h rows one high) 0 n)
+size-few false n h rows one high few = omega (arith, sum-few (bodyFor false n h rows) 2001 (λ k. omega (arith, pixels-body-few n h rows k one)) 0 n)
+size-few true n h rows one high few = omega (arith, sum-few (bodyFor true n h rows) 267 (λ k. omega (arith, rows-body-few n h rows k)) 0 n)
 
 pub length-smap : (n h : ℕ) (rows : List ℕ) → 1 ≤ h → h ≤ 200 → n ≤ 128 → length (smapBlock n h rows) ≤ 262664
 unfolding sizeOf
@@ -86,7 +68,7 @@ length-smap n h rows one high few =
     omega (
       arith,
       length-block smapTag false n (bodyFor false n h rows),
-      sum-few false (bodyFor false n h rows) (bodies-few false n h rows one high) 0 n,
+      sum-few (bodyFor false n h rows) 2001 (λ k. omega (arith, pixels-body-few n h rows k one)) 0 n,
     )
 
 -- ---- strip k of a block in its place

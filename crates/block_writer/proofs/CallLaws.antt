@@ -1,13 +1,13 @@
 -- Laws of the calls: each answer from the tests that led to it.
-use mathlib.Core.Path.{_≡_, refl, sym, ap, _∙_}
+use mathlib.Core.Path.{_≡_, refl, sym, ap, ap₂, _∙_}
 use mathlib.Core.Bool.{Bool, true, _&&_}
 use mathlib.Core.List.{List, _++_, append-assoc}
 use Prim.Native.Nat.{ℕ, _+_, _*_, _%_, _≤_, _<_}
-use native.Mathlib.Nat.{le-trans, mul-le-mul-right}
+use native.Mathlib.Nat.{le-trans, mul-le-mul-right, zero-add}
 use native.Mathlib.Omega.{arith}
 use borrow.Author.Tests.{lt-ltb, le-ltb, leb-true, eqb-true}
 use lib.ListN.{length, take, drop, length-append}
-use lib.Seq.{sets, length-sets}
+use lib.Seq.{sets, drop-at, length-take-le}
 use lib.Dec.{leb, eqb}
 use Rattle.number.specs.Number.{be32Bytes}
 use Rattle.block_writer.specs.declared.Wrote.the-variants.{Block, Refused}
@@ -16,7 +16,7 @@ use Rattle.block_writer.specs.Block.{tableFrom, bodiesFrom, sizeOf, bloc
 use Rattle.block_writer.specs.Call.{sizesAllowed, sourceSize, blockOutcome, Answered}
 use Rattle.number.proofs.BoolLaws.{both}
 use Rattle.number.specs.Buffer.{over}
-use Rattle.block_writer.proofs.PutLaws.{put-to, put-past}
+use Rattle.number.proofs.StoreLaws.{sets-append, sets-is}
 use Rattle.block_writer.proofs.FillLaws.{length-table}
 
 -- ---- sizes
@@ -69,38 +69,40 @@ length-block tag mask n f =
       length-be32 s,
     )
 
-module _ (tag : ℕ) (mask : Bool) (n : ℕ) (f : ℕ → List ℕ) (d : List ℕ) (size : ℕ) (same : size ≡ sizeOf mask n f) (room : 8 ≤ length d) where
-  pub block-done : (x e : List ℕ) → x ≡ sets (sets d 0 (be32Bytes tag)) 4 (be32Bytes size)
-      → e ≡ over (take 8 x ++ (tableFrom mask f 0 n (tableEnd mask n) ++ bodiesFrom f 0 n)) x
-      → e ≡ over (blockOf tag mask n f) d
-  unfolding over blockOf
-  block-done x e g h =
-      let one = sets d 0 (be32Bytes tag) in
-      let two = sets one 4 (be32Bytes size) in
-      let lt = length-be32 tag in
-      let ls = length-be32 size in
-      let rest = tableFrom mask f 0 n (tableEnd mask n) ++ bodiesFrom f 0 n in
-      let h1 : 0 + length (be32Bytes tag) ≤ length d = omega arith in
-      let l1 : length one ≡ length d = length-sets d 0 (be32Bytes tag) in
-      let h2 : 4 + length (be32Bytes size) ≤ length one = omega arith in
-      let front : take 8 x ≡ be32Bytes tag ++ be32Bytes size =
-      ap (take 8) g ∙ put-to one 4 (be32Bytes size) h2 8 (omega arith) ∙ ap (λ (q : List ℕ). q ++ be32Bytes size)
-      (put-to d 0 (be32Bytes tag) h1 4 (omega arith)) in
-      let all : take 8 x ++ rest ≡ blockOf tag mask n f =
-      ap (λ (q : List ℕ). q ++ rest) front ∙ append-assoc (be32Bytes tag) (be32Bytes size) rest ∙ ap (λ (k : ℕ). be32Bytes tag ++ (be32Bytes k ++ rest)) same in
-      let big : 8 ≤ length (blockOf tag mask n f) = omega (
-        arith,
-        length-append (be32Bytes tag) (be32Bytes (sizeOf mask n f) ++ rest),
-        length-append
-            (be32Bytes (sizeOf mask n f)) rest,
-        length-be32 (sizeOf mask n f),
-      ) in
-      h
-      ∙ ap (λ (q : List ℕ). q ++ drop (length q) x) all
-      ∙ ap (λ (q : List ℕ). blockOf tag mask n f ++ q)
-      (ap (drop (length (blockOf tag mask n f))) g
-      ∙ put-past one 4 (be32Bytes size) h2 (length (blockOf tag mask n f)) (omega arith)
-      ∙ put-past d 0 (be32Bytes tag) h1 (length (blockOf tag mask n f)) (omega arith))
+pub size-some : (mask : Bool) (n : ℕ) (f : ℕ → List ℕ) → 8 ≤ sizeOf mask n f
+unfolding sizeOf
+size-some mask n f = omega arith
+
+-- the header over the table and the bodies
+pub block-done : (tag : ℕ) (mask : Bool) (n : ℕ) (f : ℕ → List ℕ) (d : List ℕ) (size : ℕ) → size ≡ sizeOf mask n f → 8 ≤ length d
+    → (x e : List ℕ) → x ≡ over (take 8 d ++ (tableFrom mask f 0 n (tableEnd mask n) ++ bodiesFrom f 0 n)) d
+    → e ≡ sets (sets x 0 (be32Bytes tag)) 4 (be32Bytes size) → e ≡ over (blockOf tag mask n f) d
+unfolding over blockOf
+block-done tag mask n f d size same room x e g h =
+    let t = be32Bytes tag in
+    let z = be32Bytes size in
+    let rest = tableFrom mask f 0 n (tableEnd mask n) ++ bodiesFrom f 0 n in
+    let tail = drop (length (take 8 d ++ rest)) d in
+    let lt : length t ≡ 4 = length-be32 tag in
+    let lz : length z ≡ 4 = length-be32 size in
+    let eight : length (take 8 d) ≡ 8 = length-take-le 8 d room in
+    let head : length (t ++ z) ≡ 8 = length-append t z ∙ ap₂ (λ (a b : ℕ). a + b) lt lz in
+    let four : 0 + length t ≡ 4 = omega arith in
+    let parts : x ≡ take 8 d ++ (rest ++ tail) = g ∙ append-assoc (take 8 d) rest tail in
+    let fits : 0 + length (t ++ z) ≤ length x = omega (arith, ap length parts ∙ length-append (take 8 d) (rest ++ tail)) in
+    let behind : drop (0 + length (t ++ z)) x ≡ rest ++ tail =
+    ap₂ (λ (k : ℕ) (l : List ℕ). drop k l) (zero-add (length (t ++ z)) ∙ head) parts ∙ drop-at (take 8 d) (rest ++ tail) 8 eight in
+    let end : length (take 8 d ++ rest) ≡ length (t ++ (z ++ rest)) =
+    omega (arith, length-append (take 8 d) rest, length-append t (z ++ rest), length-append z rest) in
+    h
+    ∙ rw four at (sets-append t z x 0)
+    ∙ sets-is x 0 (t ++ z) fits
+    ∙ ap (λ (q : List ℕ). (t ++ z) ++ q) behind
+    ∙ append-assoc t z (rest ++ tail)
+    ∙ ap (λ (q : List ℕ). t ++ q) (sym (append-assoc z rest tail))
+    ∙ sym (append-assoc t (z ++ rest) tail)
+    ∙ ap (λ (k : ℕ). (t ++ (z ++ rest)) ++ drop k d) end
+    ∙ ap (λ (k : ℕ). (t ++ (be32Bytes k ++ rest)) ++ drop (length (t ++ (be32Bytes k ++ rest))) d) same
 
 -- ---- the answers
 
@@ -109,19 +111,19 @@ module _ (tag : ℕ) (mask : Bool) (n h : ℕ) (src d : List ℕ) where
   unfolding blockOutcome
   short-source lt = rw (lt-ltb (length src) (sourceSize mask n h) lt) (refl, refl)
 
-  module _ (enough : sourceSize mask n h ≤ length src) (size : ℕ) (same : size ≡ sizeOf mask n (bodyFor mask n h src)) where
-    len : length (blockOf tag mask n (bodyFor mask n h src)) ≡ size
-    len = length-block tag mask n (bodyFor mask n h src) ∙ sym same
+  module _ (enough : sourceSize mask n h ≤ length src) where
+    len : length (blockOf tag mask n (bodyFor mask n h src)) ≡ sizeOf mask n (bodyFor mask n h src)
+    len = length-block tag mask n (bodyFor mask n h src)
 
-    pub short-target : length d < size → Answered (blockOutcome tag mask n h src (length d)) d d (Refused 4)
+    pub short-target : length d < sizeOf mask n (bodyFor mask n h src) → Answered (blockOutcome tag mask n h src (length d)) d d (Refused 4)
     unfolding blockOutcome
     short-target lt =
         rw (le-ltb (length src) (sourceSize mask n h) enough, lt-ltb (length d) (length (blockOf tag mask n (bodyFor mask n h src))) (omega (arith, len)))
         (refl, refl)
 
-    pub whole-block : size ≤ length d → (e : List ℕ) → e ≡ over (blockOf tag mask n (bodyFor mask n h src)) d
-        → Answered (blockOutcome tag mask n h src (length d)) d e (Block size)
+    pub whole-block : (size : ℕ) → size ≡ sizeOf mask n (bodyFor mask n h src) → sizeOf mask n (bodyFor mask n h src) ≤ length d
+        → (e : List ℕ) → e ≡ over (blockOf tag mask n (bodyFor mask n h src)) d → Answered (blockOutcome tag mask n h src (length d)) d e (Block size)
     unfolding blockOutcome
-    whole-block le e f =
+    whole-block size same le e f =
         rw (le-ltb (length src) (sourceSize mask n h) enough, le-ltb (length d) (length (blockOf tag mask n (bodyFor mask n h src))) (omega (arith, len)))
-        (ap Block (sym len), f)
+        (ap Block (same ∙ sym len), f)

@@ -176,6 +176,20 @@ filled mask n f d out s at p w le h =
     cut : (b at : ℕ) (out : List ℕ) → b ≤ at → take at out ≡ take b out ++ take (at - b) (drop b out)
     cut b at out le = let e : at ≡ b + (at - b) = omega arith in ap (λ (k : ℕ). take k out) e ∙ take-add b (at - b) out
 
+pub filled-size : (mask : Bool) (n : ℕ) (f : ℕ → List ℕ) (d out : List ℕ) (s at p : ℕ) → Filling mask n f d out s at p → n ≤ s
+    → at ≡ tableEnd mask n + length (bodiesFrom f 0 n)
+filled-size mask n f d out s at p w le =
+    let b = tableEnd mask n in
+    let far = w .far in
+    let left = ap length (bodies-stop mask f n s le) in
+    let len : length (drop b out) ≡ length out - b = length-drop b out in
+    omega (
+      arith,
+      ap length (w .bodies),
+      length-append (take (at - b) (drop b out)) (bodiesFrom f s (n - s)),
+      length-take-le (at - b) (drop b out) (omega (arith, w .room)),
+    )
+
 pub offset-none : (len at : ℕ) (b : List ℕ) → len ≡ 0 → len ≡ length b → 0 ≡ offsetOf b at
 offset-none len at [] e f = refl
 offset-none len at (x ∷ b) e f = absurd (omega arith)

@@ -1,5 +1,5 @@
 -- Laws of the bit writer, and of an operation as a number.
-use mathlib.Core.Path.{_≡_, refl, sym, ap, _∙_}
+use mathlib.Core.Path.{_≡_, refl, sym, ap, ap₂, _∙_}
 use mathlib.Core.Bool.{Bool, true, false}
 use mathlib.Core.List.{List, [], _∷_, _++_, append-assoc, append-nil}
 use Prim.Native.Nat.{ℕ, _+_, _-_, _*_, _/_, _%_, _^_, _≤_, _<_}
@@ -9,7 +9,7 @@ use native.Mathlib.Omega.{arith}
 use borrow.Author.Tests.{eq-eqb, ne-eqb}
 use lib.ListN.{length, take, drop, set, length-set}
 use lib.Seq.{take-suc-set, drop-set-lt}
-use lib.Pow.{shl-exact, shr-lt, pow-add, pow-mono}
+use lib.Pow.{shr-lt, pow-add, pow-mono}
 use lib.Arith.{digits-lt}
 use lib.Dec.{lit<}
 use Rattle.bits.specs.Bits.{lowBits}
@@ -17,6 +17,7 @@ use Rattle.strip.specs.Strip.{plus, minus}
 use Rattle.bits.proofs.BitLaws.{low-join, length-low}
 use Rattle.number.proofs.BufferLaws.{drop-more}
 use Rattle.strip_writer.specs.declared.BitWriter.{BitWriter}
+use Rattle.strip_writer.specs.declared.Op.{Op}
 use Rattle.strip_writer.specs.Pack.{packed}
 use Rattle.strip_writer.specs.Pixels.{opBits, stepOf}
 use Rattle.strip_writer.specs.BitWriter.{bytesWith, BitsPut, OpCoded}
@@ -73,6 +74,13 @@ module _ (colour step v : ℕ) where
             after = rw (ne-eqb v colour ne, ne-eqb v (minus colour step) nd, ne-eqb v (plus colour step) e);
           }
 
+-- two operations as one
+pub op-joined : (c s v w : ℕ) (one two : Op) → OpCoded c s v one → OpCoded v (one .step) w two
+    → lowBits (one .count + two .count) (one .value + two .value * 2 ^ one .count) ≡ opBits c s v ++ opBits v (stepOf c s v) w
+op-joined c s v w one two f g =
+    low-join (one .count) (two .count) (one .value) (two .value) (f .low)
+    ∙ ap₂ (λ (a b : List Bool). a ++ b) (f .means) (g .means ∙ ap (λ (t : ℕ). opBits v t w) (f .after))
+
 -- ---- the bit writer
 
 -- a byte is stored at the bit writer's place
@@ -101,34 +109,38 @@ flush-one d p h eight room =
       low = shr-lt (p .bits - 8) 8 (rw back h);
     }
 
--- the bits of a number follow those held
-pub join-low : (p : BitWriter) (count value : ℕ) → p .hold < 2 ^ p .bits → value < 2 ^ count → p .hold + value * 2 ^ p .bits < 2 ^ (p .bits + count)
-join-low p count value h b =
-    let top : value * 2 ^ p .bits + p .hold < 2 ^ count * 2 ^ p .bits = digits-lt b h in
-    let e : p .bits + count ≡ count + p .bits = omega arith in
+-- the bits of a number follow those of another
+pub join-low : (n x count value : ℕ) → x < 2 ^ n → value < 2 ^ count → x + value * 2 ^ n < 2 ^ (n + count)
+join-low n x count value h b =
+    let top : value * 2 ^ n + x < 2 ^ count * 2 ^ n = digits-lt b h in
+    let e : n + count ≡ count + n = omega arith in
     rw (e, pow-add) (omega (arith, top))
 
-pub join-shift : (p : BitWriter) (count value : ℕ) → p .bits ≤ 7 → count ≤ 10 → value < 2 ^ count → value * 2 ^ p .bits % 2 ^ 32 ≡ value * 2 ^ p .bits
-join-shift p count value few ten b = shl-exact count (p .bits) 32 b (omega arith)
+pub bits-held : (d : List ℕ) (p : BitWriter) (count value : ℕ) → p .hold < 2 ^ p .bits → value < 2 ^ count
+    → BitsPut d d p (record { at = p .at; bits = p .bits + count; hold = p .hold + value * 2 ^ p .bits }) (lowBits count value)
+unfolding bytesWith
+bits-held d p count value h b =
+    record {
+      same = λ l.
+          ap (λ (t : List Bool). take (p .at) d ++ packed t)
+          (sym (append-assoc (lowBits (p .bits) (p .hold)) (lowBits count value) l) ∙ ap (λ (t : List Bool). t ++ l)
+          (sym (low-join (p .bits) count (p .hold) value h)));
+      on = le-refl (p .at);
+      past = refl;
+      whole = refl;
+      low = join-low (p .bits) (p .hold) count value h b;
+    }
 
-module _ (d e f : List ℕ) (p q r : BitWriter) (count value : ℕ) where
-  pub bits-put : p .hold < 2 ^ p .bits
-      → BitsPut d e (record { at = p .at; bits = p .bits + count; hold = p .hold + value * 2 ^ p .bits }) q [] → BitsPut e f q r []
-      → BitsPut d f p r (lowBits count value)
-  unfolding bytesWith
-  bits-put h one two =
-      record {
-        same = λ l.
-            ap (λ (t : List Bool). take (p .at) d ++ packed t)
-            (sym (append-assoc (lowBits (p .bits) (p .hold)) (lowBits count value) l) ∙ ap (λ (t : List Bool). t ++ l)
-            (sym (low-join (p .bits) count (p .hold) value h)))
-            ∙ one .same l
-            ∙ two .same l;
-        on = le-trans (one .on) (two .on);
-        past = two .past ∙ further e d (r .at) (q .at) (two .on) (one .past);
-        whole = two .whole ∙ one .whole;
-        low = two .low;
-      }
+-- bytes go out after bits were put
+pub then-flush : (d e f : List ℕ) (p q r : BitWriter) (bits : List Bool) → BitsPut d e p q bits → BitsPut e f q r [] → BitsPut d f p r bits
+then-flush d e f p q r bits one two =
+    record {
+      same = λ l. one .same l ∙ two .same l;
+      on = le-trans (one .on) (two .on);
+      past = two .past ∙ further e d (r .at) (q .at) (two .on) (one .past);
+      whole = two .whole ∙ one .whole;
+      low = two .low;
+    }
 
 -- ---- the last byte
 

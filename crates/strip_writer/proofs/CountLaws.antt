@@ -89,15 +89,19 @@ module _ (whole m n i : ℕ) (s : List ℕ) (so-far : whole ≡ n + literalLengt
 
 -- ---- zeros
 
-module _ (whole : Bool) (i : ℕ) (s : List ℕ) (so-far : whole ≡ allZero (drop i s)) where
-  pub zero-ends : length s ≤ i → true ≡ whole
-  unfolding allZero
-  zero-ends le = sym (so-far ∙ ap allZero (drop-of-length-le s le))
+and-last : (p : Bool) → (p && true) ≡ p
+and-last true = refl
+and-last false = refl
 
-  pub zero-breaks : i < length s → (getD s i 0 ≡ 0 → ⊥) → false ≡ whole
-  unfolding allZero
-  zero-breaks h ne = sym (so-far ∙ ap allZero (from-at s i h) ∙ ap (λ (p : Bool). p && allZero (drop (i + 1) s)) (ne-eqb (getD s i 0) 0 ne))
+and-assoc : (p q r : Bool) → (p && (q && r)) ≡ ((p && q) && r)
+and-assoc true q r = refl
+and-assoc false q r = refl
 
-  pub zero-goes : i < length s → getD s i 0 ≡ 0 → whole ≡ allZero (drop (i + 1) s)
+module _ (whole zero : Bool) (i : ℕ) (s : List ℕ) (so-far : whole ≡ (zero && allZero (drop i s))) where
+  pub zero-end : length s ≤ i → zero ≡ whole
   unfolding allZero
-  zero-goes h eq = so-far ∙ ap allZero (from-at s i h) ∙ ap (λ (p : Bool). p && allZero (drop (i + 1) s)) (eq-eqb (getD s i 0) 0 eq)
+  zero-end le = sym (so-far ∙ ap (λ (l : List ℕ). zero && allZero l) (drop-of-length-le s le) ∙ and-last zero)
+
+  pub zero-more : i < length s → whole ≡ ((zero && eqb (getD s i 0) 0) && allZero (drop (i + 1) s))
+  unfolding allZero
+  zero-more h = so-far ∙ ap (λ (l : List ℕ). zero && allZero l) (from-at s i h) ∙ and-assoc zero (eqb (getD s i 0) 0) (allZero (drop (i + 1) s))

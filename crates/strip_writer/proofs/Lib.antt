@@ -2,6 +2,7 @@ pub mod PackLaws
 pub mod PixelLaws
 pub mod RowLaws
 pub mod BitWriterLaws
+pub mod SizeLaws
 pub mod WritingLaws
 pub mod CountLaws
 pub mod RowOpLaws

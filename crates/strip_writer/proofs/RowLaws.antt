@@ -1,8 +1,8 @@
 -- Laws of the operations of a strip of rows, and that a strip that is written reads back.
-use mathlib.Core.Path.{_≡_, refl, sym, ap, ap₂, _∙_}
+use mathlib.Core.Path.{_≡_, refl, sym, ap, ap₂, _∙_, subst}
 use mathlib.Core.Bool.{Bool, true, false, _&&_, cond}
 use mathlib.Core.List.{List, [], _∷_, _++_}
-use Prim.Native.Nat.{ℕ, zero, suc, _+_, _-_, _*_, _≤_, _<_, zero-le}
+use Prim.Native.Nat.{ℕ, zero, suc, _+_, _-_, _/_, _≤_, _<_, zero-le}
 use native.Mathlib.Nat.{le-refl, suc-add, zero-add, not-suc-le-zero}
 use native.Mathlib.Numerals.{sub-one}
 use native.Mathlib.Omega.{arith}
@@ -193,41 +193,96 @@ zeros-all (x ∷ t) e = go (eqb x 0) refl e (zeros-all t)
     go true f g k = ap₂ (λ (y : ℕ) (u : List ℕ). y ∷ u) (eqb-true x 0 f) (k g)
     go false f g k = absurd (let z : _≡_ {A = ℕ} 0 1 = cc in omega arith)
 
--- an operation has at most two bytes to a row
-length-row-op : (x : ℕ) (t : List ℕ) → length (opBytes x t) ≤ 2 * opRows x t
-length-row-op x t = go (leb 2 (runLength 127 x (x ∷ t))) refl
+-- ---- how long a body is: a byte to a row, and one to each literal, as a literal and the run behind it are three rows or more
+
+-- rows that begin with two equal ones
+data Pair : List ℕ → Type 0 where
+  pair : (x : ℕ) (t : List ℕ) → Pair (x ∷ x ∷ t)
+
+run-pair : (x : ℕ) (t : List ℕ) → Pair (x ∷ t) → 2 ≤ runLength 127 x (x ∷ t)
+run-pair x t (pair y u) = omega (arith, run-more 126 x (x ∷ u), run-more 125 x u)
+
+-- a literal of j rows is as long as may be, or the last operation, or a run follows it
+data LiteralEnds (m : ℕ) (l : List ℕ) (j : ℕ) : Type 0 where
+  full : m ≤ j → LiteralEnds m l j
+  last : length l ≤ j → LiteralEnds m l j
+  run : Pair (drop j l) → LiteralEnds m l j
+
+literal-ends : (m : ℕ) (l : List ℕ) → LiteralEnds m l (literalLength m l)
+unfolding literalLength
+literal-ends zero l = full zero-le
+literal-ends (suc m) [] = last zero-le
+literal-ends (suc m) (x ∷ []) = last (le-refl 1)
+literal-ends (suc m) (x ∷ y ∷ t) = go (eqb x y) refl (literal-ends m (y ∷ t))
   where
-    go : (p : Bool) → leb 2 (runLength 127 x (x ∷ t)) ≡ p → length (opBytes x t) ≤ 2 * opRows x t
-    go true e =
-        let h = leb-true 2 (runLength 127 x (x ∷ t)) e in
-        rw (op-bytes-cases x t true e, op-rows-cases x t true e) (omega arith)
-    go false e =
-        let h = literal-some 125 x t (leb-false 2 (runLength 127 x (x ∷ t)) e) in
-        let k = literal-le 127 (x ∷ t) in
-        rw (op-bytes-cases x t false e, op-rows-cases x t false e) (omega (arith, length-take-le (literalLength 127 (x ∷ t)) (x ∷ t) (k .1)))
+    go : (p : Bool) → eqb x y ≡ p → LiteralEnds m (y ∷ t) (literalLength m (y ∷ t))
+        → LiteralEnds (suc m) (x ∷ y ∷ t) (cond p 0 (suc (literalLength m (y ∷ t))))
+    go true e k = run (subst (λ (z : ℕ). Pair (x ∷ z ∷ t)) (eqb-true x y e) (pair x t))
+    go false e (full h) = full (omega arith)
+    go false e (last h) = last (omega arith)
+    go false e (run h) = run h
 
-pub length-row-ops : (n : ℕ) (l : List ℕ) → length l ≤ n → length (opsBytes 0 l) ≤ 2 * length l
+-- the operations of rows, and of rows that begin with a run
+record Few (l : List ℕ) : Type 0 where
+  pub any : length (opsBytes 0 l) ≤ length l + (length l + 2) / 3
+  pub from-pair : Pair l → length (opsBytes 0 l) ≤ length l + length l / 3
+
+module _ (x : ℕ) (t : List ℕ) where
+  few-run : leb 2 (runLength 127 x (x ∷ t)) ≡ true → Few (drop (opRows x t) (x ∷ t)) → Few (x ∷ t)
+  few-run e f =
+      let r = op-rows-cases x t true e in
+      let h = leb-true 2 (runLength 127 x (x ∷ t)) e in
+      let k = rows-brought x t .inside in
+      let len : length (drop (opRows x t) (x ∷ t)) ≡ suc (length t) - opRows x t = length-drop (opRows x t) (x ∷ t) in
+      let two = ap length (op-bytes-cases x t true e) in
+      let step = ap length (row-ops-step x t) ∙ length-append (opBytes x t) (opsBytes 0 (drop (opRows x t) (x ∷ t))) in
+      let m = f .any in
+      record { any = omega (arith, two, step); from-pair = λ q. omega (arith, two, step) }
+
+  few-literal : leb 2 (runLength 127 x (x ∷ t)) ≡ false → Few (drop (opRows x t) (x ∷ t)) → Few (x ∷ t)
+  few-literal e f =
+      let b = leb-false 2 (runLength 127 x (x ∷ t)) e in
+      record { any = go (subst (LiteralEnds 127 (x ∷ t)) (sym r) (literal-ends 127 (x ∷ t))); from-pair = λ q. absurd (omega (arith, run-pair x t q)) }
+    where
+      r : opRows x t ≡ literalLength 127 (x ∷ t)
+      r = op-rows-cases x t false e
+
+      bytes : length (opBytes x t) ≡ 1 + opRows x t
+      bytes =
+          let k = literal-le 127 (x ∷ t) in
+          omega (arith, ap length (op-bytes-cases x t false e), length-take-le (literalLength 127 (x ∷ t)) (x ∷ t) (k .1), r)
+
+      step : length (opsBytes 0 (x ∷ t)) ≡ length (opBytes x t) + length (opsBytes 0 (drop (opRows x t) (x ∷ t)))
+      step = ap length (row-ops-step x t) ∙ length-append (opBytes x t) (opsBytes 0 (drop (opRows x t) (x ∷ t)))
+
+      len : length (drop (opRows x t) (x ∷ t)) ≡ suc (length t) - opRows x t
+      len = length-drop (opRows x t) (x ∷ t)
+
+      go : LiteralEnds 127 (x ∷ t) (opRows x t) → length (opsBytes 0 (x ∷ t)) ≤ suc (length t) + (suc (length t) + 2) / 3
+      go (full h) = omega (arith, rows-brought x t .inside, bytes, step, len, f .any)
+      go (last h) = omega (arith, rows-brought x t .inside, bytes, step, len, f .any)
+      go (run h) = omega (arith, rows-brought x t .inside, rows-brought x t .some, bytes, step, len, f .from-pair h)
+
+few : (n : ℕ) (l : List ℕ) → length l ≤ n → Few l
 unfolding opsBytes
-length-row-ops zero [] h = zero-le
-length-row-ops (suc n) [] h = zero-le
-length-row-ops zero (x ∷ t) h = absurd (not-suc-le-zero h)
-length-row-ops (suc n) (x ∷ t) h =
-    let r = opRows x t in
-    let k = rows-brought x t in
-    let len : length (drop r (x ∷ t)) ≡ suc (length t) - r = length-drop r (x ∷ t) in
-    let more : length (opsBytes 0 (drop r (x ∷ t))) ≤ 2 * length (drop r (x ∷ t)) = length-row-ops n (drop r (x ∷ t)) (omega arith) in
-    let step : length (opsBytes 0 (x ∷ t)) ≡ length (opBytes x t) + length (opsBytes 0 (drop r (x ∷ t))) = ap length (row-ops-step x t) ∙ length-append
-    (opBytes x t) (opsBytes 0 (drop r (x ∷ t))) in
-    omega (arith, length-row-op x t, step)
+few zero [] h = record { any = zero-le; from-pair = λ q. zero-le }
+few (suc n) [] h = record { any = zero-le; from-pair = λ q. zero-le }
+few zero (x ∷ t) h = absurd (not-suc-le-zero h)
+few (suc n) (x ∷ t) h =
+    let len : length (drop (opRows x t) (x ∷ t)) ≡ suc (length t) - opRows x t = length-drop (opRows x t) (x ∷ t) in
+    go (leb 2 (runLength 127 x (x ∷ t))) refl (few n (drop (opRows x t) (x ∷ t)) (omega (arith, rows-brought x t .some)))
+  where
+    go : (p : Bool) → leb 2 (runLength 127 x (x ∷ t)) ≡ p → Few (drop (opRows x t) (x ∷ t)) → Few (x ∷ t)
+    go true e f = few-run x t e f
+    go false e f = few-literal x t e f
 
--- and so has a body
-pub length-rows : (l : List ℕ) → length (rowsBody l) ≤ 2 * length l
+pub length-rows : (l : List ℕ) → length (rowsBody l) ≤ length l + (length l + 2) / 3
 unfolding rowsBody
 length-rows l = go (allZero l)
   where
-    go : (p : Bool) → length (cond p [] (opsBytes 0 l)) ≤ 2 * length l
+    go : (p : Bool) → length (cond p [] (opsBytes 0 l)) ≤ length l + (length l + 2) / 3
     go true = zero-le
-    go false = length-row-ops (length l) l (le-refl (length l))
+    go false = few (length l) l (le-refl (length l)) .any
 
 -- what a body, or no body, says of the rows
 pub data Back (body l : List ℕ) : Type 0 where

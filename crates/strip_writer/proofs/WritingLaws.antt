@@ -1,7 +1,7 @@
 -- Laws of a strip that is written: where it starts, one pixel more, and where it ends.
-use mathlib.Core.Path.{_≡_, refl, sym, ap, _∙_}
+use mathlib.Core.Path.{_≡_, refl, sym, ap, ap₂, _∙_}
 use mathlib.Core.Bool.{Bool}
-use mathlib.Core.List.{List, [], _∷_, _++_}
+use mathlib.Core.List.{List, [], _∷_, _++_, append-assoc}
 use Prim.Native.Nat.{ℕ, _+_, _-_, _*_, _/_, _^_, _≤_, _<_, zero-le}
 use native.Mathlib.Nat.{le-refl}
 use native.Mathlib.Numerals.{add-one}
@@ -20,6 +20,7 @@ use Rattle.strip_writer.specs.Pixels.{opBits, stepOf, opsBits, stripBody
 use Rattle.strip_writer.specs.BitWriter.{bytesWith, bitCount, BitsPut, OpCoded}
 use Rattle.strip_writer.proofs.BitWriterLaws.{further}
 use Rattle.strip_writer.proofs.PackLaws.{length-packed}
+use Rattle.strip_writer.proofs.SizeLaws.{Unit, unit-one, unit-step, ops-any-step}
 
 pub length-strip : (px : List ℕ) → 1 ≤ length px → length (stripBody px) ≡ 2 + (length (opsBits (getD px 0 0) 1 (drop 1 px)) + 7) / 8
 unfolding stripBody
@@ -65,11 +66,12 @@ written body e d r front le back =
 pub record Writing (px d out : List ℕ) (writer : BitWriter) (colour step i : ℕ) : Type 0 where
   pub one : 1 ≤ i
   pub inside : i ≤ length px
+  pub unit : Unit step
   pub whole : length out ≡ length d
   pub far : 2 ≤ writer .at
   pub past : drop (writer .at) out ≡ drop (writer .at) d
   pub low : writer .hold < 2 ^ writer .bits
-  pub few : writer .bits ≤ 7
+  pub few : writer .bits ≤ 31
   pub room : bitCount writer + length (opsBits colour step (drop i px)) ≤ 8 * length out
   pub same : stripBody px ≡ bytesWith out writer (opsBits colour step (drop i px))
 
@@ -81,6 +83,7 @@ writing-start px d h room =
     record {
       one = le-refl 1;
       inside = h;
+      unit = unit-one;
       whole = refl;
       far = le-refl 2;
       past = refl;
@@ -90,40 +93,53 @@ writing-start px d h room =
       same = start px d h (omega arith);
     }
 
-module _ (px d out : List ℕ) (writer : BitWriter) (colour step i : ℕ) (w : Writing px d out writer colour step i) (lt : i < length px) (o : Op)
-    (k : OpCoded colour step (getD px i 0) o) where
-  next : ℕ
-  next = length (opsBits (getD px i 0) (stepOf colour step (getD px i 0)) (drop (i + 1) px))
+-- what is still to be written, by its next bits: those of one operation, or of two
+pub split-one : (colour step : ℕ) (px : List ℕ) (i : ℕ) → i < length px → (o : Op) → OpCoded colour step (getD px i 0) o
+    → opsBits colour step (drop i px) ≡ lowBits (o .count) (o .value) ++ opsBits (getD px i 0) (o .step) (drop (i + 1) px)
+split-one colour step px i lt o k =
+    ops-step colour step px i lt
+    ∙ ap₂ (λ (b : List Bool) (s : ℕ). b ++ opsBits (getD px i 0) s (drop (i + 1) px)) (sym (k .means)) (sym (k .after))
 
-  counted : length (opsBits colour step (drop i px)) ≡ o .count + next
-  unfolding next
+pub split-two : (colour step : ℕ) (px : List ℕ) (i : ℕ) → i + 1 < length px → (o : Op)
+    → lowBits (o .count) (o .value) ≡ opBits colour step (getD px i 0) ++ opBits (getD px i 0) (stepOf colour step (getD px i 0)) (getD px (i + 1) 0)
+    → o .step ≡ stepOf (getD px i 0) (stepOf colour step (getD px i 0)) (getD px (i + 1) 0)
+    → opsBits colour step (drop i px) ≡ lowBits (o .count) (o .value) ++ opsBits (getD px (i + 1) 0) (o .step) (drop (i + 2) px)
+split-two colour step px i lt o means after =
+    let v = getD px i 0 in
+    let x = getD px (i + 1) 0 in
+    let s = stepOf colour step v in
+    let e : i + 1 + 1 ≡ i + 2 = omega arith in
+    ops-step colour step px i (omega arith)
+    ∙ ap (λ (t : List Bool). opBits colour step v ++ t)
+    (ops-step v s px (i + 1) lt ∙ ap (λ (k : ℕ). opBits v s x ++ opsBits x (stepOf v s x) (drop k px)) e)
+    ∙ sym (append-assoc (opBits colour step v) (opBits v s x) (opsBits x (stepOf v s x) (drop (i + 2) px)))
+    ∙ ap₂ (λ (b : List Bool) (t : ℕ). b ++ opsBits x t (drop (i + 2) px)) (sym means) (sym after)
+
+module _ (px d out : List ℕ) (writer : BitWriter) (colour step i : ℕ) (w : Writing px d out writer colour step i) (colour′ step′ i′ count value : ℕ)
+    (split : opsBits colour step (drop i px) ≡ lowBits count value ++ opsBits colour′ step′ (drop i′ px)) where
+  counted : length (opsBits colour step (drop i px)) ≡ count + length (opsBits colour′ step′ (drop i′ px))
   counted =
-      ap length (ops-step colour step px i lt)
-      ∙ length-append (opBits colour step (getD px i 0)) (opsBits (getD px i 0) (stepOf colour step (getD px i 0)) (drop (i + 1) px))
-      ∙ ap (λ (n : ℕ). n + next) (ap length (sym (k .means)) ∙ length-low (o .count) (o .value))
+      ap length split
+      ∙ length-append (lowBits count value) (opsBits colour′ step′ (drop i′ px))
+      ∙ ap (λ (n : ℕ). n + length (opsBits colour′ step′ (drop i′ px))) (length-low count value)
 
-  pub room-for : bitCount writer + o .count < 8 * length out + 8
+  pub room-for : bitCount writer + count < 8 * length out + 8
   room-for = omega (arith, counted, w .room)
 
-  pub writing-more : (e : List ℕ) (q : BitWriter) → BitsPut out e writer q (lowBits (o .count) (o .value)) → bitCount q ≡ bitCount writer + o .count → q .bits ≤
-      7
-      → Writing px d e q (getD px i 0) (o .step) (i + 1)
-  unfolding next
-  writing-more e q p at few =
-      let v = getD px i 0 in
-      let more = opsBits v (stepOf colour step v) (drop (i + 1) px) in
+  pub writing-more : 1 ≤ i′ → i′ ≤ length px → Unit step′ → (e : List ℕ) (q : BitWriter) → BitsPut out e writer q (lowBits count value)
+      → bitCount q ≡ bitCount writer + count → q .bits ≤ 31 → Writing px d e q colour′ step′ i′
+  writing-more one inside unit e q p at few =
       record {
-        one = omega arith;
-        inside = omega arith;
+        one = one;
+        inside = inside;
+        unit = unit;
         whole = p .whole ∙ w .whole;
         far = omega (arith, p .on, w .far);
         past = p .past ∙ further out d (q .at) (writer .at) (p .on) (w .past);
         low = p .low;
         few = few;
-        room = rw (k .after) (omega (arith, counted, w .room, p .whole));
-        same =
-            rw (k .after)
-            (w .same ∙ ap (bytesWith out writer) (ops-step colour step px i lt ∙ ap (λ (b : List Bool). b ++ more) (sym (k .means))) ∙ p .same more);
+        room = omega (arith, counted, w .room, p .whole);
+        same = w .same ∙ ap (bytesWith out writer) split ∙ p .same (opsBits colour′ step′ (drop i′ px));
       }
 
 pub writing-end : (px d d₀ out e : List ℕ) (writer : BitWriter) (colour step i r : ℕ) → Writing px d out writer colour step i → length px ≤ i
@@ -135,3 +151,12 @@ writing-end px d d₀ out e writer colour step i r w le tail front back on in-e 
     (front ∙ ap (bytesWith out writer) (sym (ops-end colour step px i le)) ∙ sym (w .same))
     in-e
     (back ∙ further out d r (writer .at) on (w .past) ∙ tail r (omega (arith, w .far)))
+
+-- ---- the count: one pixel more, which takes as many bits whatever the step before it was
+pub count-more : (px : List ℕ) (c i : ℕ) → i < length px
+    → length (opsBits c 1 (drop i px)) ≡ length (opBits c 1 (getD px i 0)) + length (opsBits (getD px i 0) 1 (drop (i + 1) px))
+count-more px c i h =
+    let v = getD px i 0 in
+    ap length (ops-step c 1 px i h)
+    ∙ length-append (opBits c 1 v) (opsBits v (stepOf c 1 v) (drop (i + 1) px))
+    ∙ ap (λ (k : ℕ). length (opBits c 1 v) + k) (ops-any-step v (stepOf c 1 v) (drop (i + 1) px) (unit-step c 1 v unit-one))

@@ -10,7 +10,7 @@ use Rattle.block_writer.proofs.bodies_size.Statement.{statement}
 use Rattle.block_writer.proofs.bodies_size.Tie as tie
 
 abbrev Inv-loop : tie.InvT-loop
-Inv-loop src mask n h sum₀ k₀ sum k = (k ≤ n) × (sum ≤ 2048 * k) × (sum + length (bodiesFrom (bodyFor mask n h src) k (n - k)) ≡ length
+Inv-loop src mask n h sum₀ k₀ sum k = (k ≤ n) × (sum ≤ 2001 * k) × (sum + length (bodiesFrom (bodyFor mask n h src) k (n - k)) ≡ length
     (bodiesFrom (bodyFor mask n h src) 0 n))
 
 abbrev μ-loop : tie.MeasureT-loop

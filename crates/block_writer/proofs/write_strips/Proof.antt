@@ -1,6 +1,6 @@
 use Rattle.block_writer.proofs.PutLaws.{put-mid}
-use Rattle.block_writer.proofs.FillLaws.{Filling, offsets-few, filling-start, body-room, offset-room, filling-more, filled}
-use Rattle.block_writer.specs.Block.{bodyFor, offsetBytes}
+use Rattle.block_writer.proofs.FillLaws.{Filling, offsets-few, filling-start, body-room, offset-room, filling-more, filled, filled-size}
+use Rattle.block_writer.specs.Block.{bodyFor, offsetBytes, sizeOf}
 use borrow.Author.Needs.{needs}
 use denote.Ref.{now}
 use lib.ListN.{length, length-drop, length-take}
@@ -29,6 +29,7 @@ add-at c =
     let k = offsets-few (args .mask) (args .n) (pre .0 .few) in let e = ap (λ (x : ℕ). x * args .n) (c .offset-size .ensures .0) in omega arith
 
 loop-holds : tie.Need-loop-holds Inv-loop μ-loop
+unfolding sizeOf
 loop-holds c =
     let start = c .before .before .before in let a = start .args in let pre = start .pre in
     subst (λ (k : ℕ). Filling (a .mask) (a .n) (bodyFor (a .mask) (a .n) (a .h) (now (a .src))) (now (a .out)) (now (a .out)) 0 (8 + k * a .n) 8)
@@ -99,7 +100,10 @@ same-length : tie.Need-same-length Inv-loop μ-loop
 same-length c = c .before .loop .inv .whole
 
 returns : tie.Need-returns Inv-loop μ-loop
-returns c = filled _ _ _ _ _ _ _ _ (c .before .loop .inv) (c .loop-test .left) (omega arith)
+unfolding sizeOf
+returns c =
+    let i = c .before .loop .inv in
+    (filled-size _ _ _ _ _ _ _ _ i (c .loop-test .left), filled _ _ _ _ _ _ _ _ i (c .loop-test .left) (omega arith))
 
 pub write-strips-spec : {M : Type 1} → statement M
 write-strips-spec =

@@ -1,31 +1,19 @@
-use native.Mathlib.Nat.{le-refl}
-use Prim.Native.Nat.{_+_}
-use Rattle.strip_writer.proofs.BitWriterLaws.{finish-none, finish-one, hold-byte}
-use lib.ListN.{length-set}
-use lib.Seq.{drop-set-lt}
 use denote.Ref.{now}
-use mathlib.Core.Path.{refl}
-use native.Mathlib.Omega.{arith}
+use native.Mathlib.Nat.{le-trans}
+use mathlib.Core.Path.{sym, _∙_}
+use mathlib.Core.List.{[]}
+use Rattle.strip_writer.proofs.BitWriterLaws.{further}
 use borrow.Author.Needs.{needs}
 use Rattle.strip_writer.proofs.finish.Statement.{statement}
 use Rattle.strip_writer.proofs.finish.Tie as tie
 
 returns : tie.Need-returns
-returns c = (finish-none _ _ (c .if1 .taken), refl, le-refl _, omega arith)
-
-cast-out : tie.Need-cast-out
-cast-out c = record { fits = hold-byte (c .before .before .args .writer) (c .before .before .pre .0) (c .before .before .pre .1) }
-
-returns-2 : tie.Need-returns-2
-returns-2 c =
-    let a = c .before .before .args in (
-      finish-one (now (a .out)) (a .writer) (c .before .before .pre .0) (c .before .if1 .left) (c .before .before .pre .1) (omega arith),
-      drop-set-lt (a .writer .at + 1) (now (a .out)) (a .writer .at) (a .writer .hold) (omega arith),
-      omega arith,
-      omega (arith, length-set (now (a .out)) (a .writer .at) (a .writer .hold)),
-    )
+returns c =
+    let last-byte = c .before .before .last-byte in let at-flush = c .before .before .before .before .before .before in
+    let flush = at-flush .flush in let args = at-flush .before .before .before .args in
+    let f = flush .ensures .0 in
+    let l = last-byte .ensures in
+    (l .0 ∙ sym (f .same []), l .1 ∙ further _ (now (args .out)) _ _ (l .2) (f .past), le-trans (f .on) (l .2), l .3)
 
 pub finish-spec : {M : Type 1} → statement M
-finish-spec =
-    tie.close (
-    tie.spec returns cast-out (λ c. search needs) (λ c. search needs) (λ c. search needs) returns-2)
+finish-spec = tie.close (tie.spec (λ c κs. search needs) (λ c κs. search needs) (λ c. search needs) returns)
