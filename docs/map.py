@@ -18,7 +18,7 @@ COLOURS = ["#e8eef7", "#e6f3ec", "#f6efe2", "#f7e8e8", "#efe9f6", "#e9f4f6", "#f
 WAY = "#b3261e"
 # A crate's row and column in its layer, so that the way of a draw crosses few boxes, and what it is about.
 BOXES = {
-    "number": (0, 0, "numbers in bytes"), "bits": (0, 1, "a body's bits"), "grid": (0, 2, "rows of surfaces"),
+    "number": (0, 0, "numbers in bytes"), "bits": (0, 1, "a body's bits"), "grid": (0, 2, "rows of surfaces"), "cells": (0, 3, "eight at a time"),
     "block": (0, 0, "the block tree"), "table": (0, 1, "strip tables"), "decode": (0, 2, "a strip's pixels"),
     "strip": (0, 3, "codes, operations"), "plane": (0, 4, "a mask strip's rows"), "strip_writer": (0, 5, "writes a body"),
     "block_writer": (0, 6, "writes SMAP, ZP"), "room": (0, 0, "the whole test"), "image": (0, 1, "objects' images"),

@@ -11,11 +11,12 @@ use borrow.Author.Tests.{lt-ltb, le-ltb}
 use lib.Dec.{ltb}
 use lib.IntN.{ℤ}
 use lib.ListN.{getD}
-use Rattle.grid.specs.Grid.{upd, within, boxed}
+use Rattle.grid.specs.Grid.{upd, within, boxed, Inside}
 use Rattle.number.specs.Number.{ahead, behind}
 use Rattle.actor.specs.Corner.{covers, nth, InFrame}
 use Rattle.actor.specs.declared.corner.Span.{Span}
-use Rattle.actor.specs.Stamp.{blended, stamped, stampBox}
+use Rattle.actor.specs.Sizes.{Planes}
+use Rattle.actor.specs.Stamp.{blended, stamped, stampBox, Buffers}
 use Rattle.grid.proofs.Upd.{upd-ext}
 use Rattle.grid.proofs.Box.{within-yes, within-lo, within-hi, within-cases}
 use Rattle.actor.proofs.CornerLaws.{covers-in, covers-lo, covers-hi, nth-is}
@@ -73,3 +74,17 @@ module _ (masks picture : List ℕ) (w h n width height clear clip : ℕ) (x y :
         → out ≡ upd (boxed w (across .start) (down .start) (across .count) (down .count) (stampBox masks picture w h n width clear clip across down)) l
         → out ≡ upd (stamped masks picture w h n width height clear x y clip) l
     stamp-made l out made = made ∙ upd-ext _ _ l (λ i k. stamp-point i (getD l i 0))
+
+-- the part in the frame lies in the frame and in the picture
+pub stamp-room : (frame masks picture w h n width height : ℕ) (x y : ℤ) (across down : Span)
+    → Buffers frame masks picture w h n width height
+    → InFrame x width w across
+    → InFrame y height h down
+    → (across .count ≡ 0 → ⊥)
+    → (down .count ≡ 0 → ⊥)
+    → Inside frame w h (across .start) (down .start) (across .count) (down .count)
+    × (Inside picture width height (across .skip) (down .skip) (across .count) (down .count) × Planes masks w h n)
+stamp-room frame masks picture w h n width height x y across down b is-across is-down wide high = (
+  record { wide = b .planes .wide; high = omega arith; room = b .room; right = omega arith; low = omega arith },
+  (record { wide = omega arith; high = omega arith; room = b .all; right = omega arith; low = omega arith }, b .planes),
+)

@@ -3,6 +3,7 @@
 mod corner;
 mod mask;
 mod picture;
+mod row;
 pub mod sizes;
 
 ghost use mathlib.Core.Path.{_≡_};

@@ -1,40 +1,12 @@
-// The stamp of a picture once all sizes and lengths are known to be right: the part of the picture that lies in the frame, pixel by pixel.
+// The stamp of a picture once all sizes and lengths are known to be right: the part of the picture that lies in the frame, row by row.
 use crate::corner::Span;
 use crate::corner::span_of;
-use crate::mask::hidden_at;
+use crate::row::stamp_row;
 ghost use mathlib.Core.Path.{_≡_};
-ghost use Prim.Native.Nat.{_<_};
 ghost use lib.ListN.{length};
 ghost use Rattle.grid.specs.Grid.{upd, boxed, Inside};
 ghost use Rattle.actor.specs.Sizes.{Planes};
-ghost use Rattle.actor.specs.Stamp.{blended, stampBox, stamped, Buffers};
-
-// The picture's colour v at (x, y) of the frame, over the colour old; `clear` is the index that is never written.
-pub(crate) fn blend(
-    masks: &[u8],
-    w: usize,
-    h: usize,
-    n: usize,
-    clear: u8,
-    clip: usize,
-    x: usize,
-    y: usize,
-    v: u8,
-    old: u8,
-) -> u8
-    requires { ⌜ Planes (length (now masks)) w h n ⌝ }
-    requires { ⌜ (x < w) × (y < h) ⌝ }
-    ensures { λ r. ⌜ r ≡ blended (now (masks .entry)) w h n clear clip x y v old ⌝ }
-{
-    if v == clear {
-        return old;
-    }
-    if hidden_at(masks, w, h, n, clip, x, y) {
-        old
-    } else {
-        v
-    }
-}
+ghost use Rattle.actor.specs.Stamp.{stampBox, stamped, Buffers};
 
 // Stamps the part of a picture that its columns `across` and its rows `down` give.
 pub(crate) fn stamp_box(
@@ -58,18 +30,13 @@ pub(crate) fn stamp_box(
         ≡ upd (boxed w (across .start) (down .start) (across .count) (down .count)
         (stampBox (now (masks .entry)) (now (picture .entry)) w h n width clear clip across down)) (now (frame .entry)) ⌝ }
 {
+    let x = across.start;
+    let len = across.count;
     let mut r = 0;
     while r < down.count {
         let y = down.start + r;
-        let at = y * w + across.start;
         let from = (down.skip + r) * width + across.skip;
-        let mut c = 0;
-        while c < across.count {
-            let x = across.start + c;
-            let v = picture[from + c];
-            frame[at + c] = blend(masks, w, h, n, clear, clip, x, y, v, frame[at + c]);
-            c += 1;
-        }
+        stamp_row(frame, masks, picture, w, h, n, x, y, from, len, clear, clip);
         r += 1;
     }
 }

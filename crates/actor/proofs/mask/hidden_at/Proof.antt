@@ -19,34 +19,34 @@ mul-b : tie.Need-mul-b
 mul-b c =
     omega (
       arith,
-      mask-spot _ _ _ _ _ _ _ (c .before .before .pre .0) (c .before .if1 .left) (c .if2 .left) (c .before .before .pre .1 .0) (c .before .before .pre .1 .1),
+      mask-spot _ _ _ _ _ _ (c .before .before .pre .0) (c .before .if1 .left) (c .if2 .left) (c .before .before .pre .1 .1) _ (c .before .before .pre .1 .0),
     )
 
 add-b : tie.Need-add-b
 add-b c =
     omega (
       arith,
-      mask-spot _ _ _ _ _ _ _ (c .before .before .pre .0) (c .before .if1 .left) (c .if2 .left) (c .before .before .pre .1 .0) (c .before .before .pre .1 .1),
+      mask-spot _ _ _ _ _ _ (c .before .before .pre .0) (c .before .if1 .left) (c .if2 .left) (c .before .before .pre .1 .1) _ (c .before .before .pre .1 .0),
     )
 
 mul-b-2 : tie.Need-mul-b-2
 mul-b-2 c =
     omega (
       arith,
-      mask-spot _ _ _ _ _ _ _ (c .before .before .pre .0) (c .before .if1 .left) (c .if2 .left) (c .before .before .pre .1 .0) (c .before .before .pre .1 .1),
+      mask-spot _ _ _ _ _ _ (c .before .before .pre .0) (c .before .if1 .left) (c .if2 .left) (c .before .before .pre .1 .1) _ (c .before .before .pre .1 .0),
     )
 
 add-b-2 : tie.Need-add-b-2
 add-b-2 c =
     omega (
       arith,
-      mask-spot _ _ _ _ _ _ _ (c .before .before .pre .0) (c .before .if1 .left) (c .if2 .left) (c .before .before .pre .1 .0) (c .before .before .pre .1 .1),
+      mask-spot _ _ _ _ _ _ (c .before .before .pre .0) (c .before .if1 .left) (c .if2 .left) (c .before .before .pre .1 .1) _ (c .before .before .pre .1 .0),
     )
 
 shared-slice-read-b : tie.Need-shared-slice-read-b
 shared-slice-read-b c =
     let pre = c .before .before .before .pre in
-    omega (arith, mask-spot _ _ _ _ _ _ _ (pre .0) (c .before .before .if1 .left) (c .before .if2 .left) (pre .1 .0) (pre .1 .1))
+    omega (arith, mask-spot _ _ _ _ _ _ (pre .0) (c .before .before .if1 .left) (c .before .if2 .left) (pre .1 .1) _ (pre .1 .0))
 
 returns-3 : tie.Need-returns-3
 unfolding hiddenAt maskBit

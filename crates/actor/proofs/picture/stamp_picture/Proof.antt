@@ -1,9 +1,10 @@
 -- `actor::picture::stamp_picture` meets its contract. Assumes nothing.
-use Rattle.actor.proofs.StampLaws.{stamp-made}
+use Rattle.actor.proofs.StampLaws.{stamp-made, stamp-room}
 use Rattle.grid.proofs.Box.{box-empty}
 use mir.ValLaws.{toZ-ofZ}
 use mir.Syntax.{w32}
 use mathlib.Core.Logic.{inl, inr}
+use native.Mathlib.Omega.{arith}
 use borrow.Author.Needs.{needs}
 use Rattle.actor.proofs.picture.stamp_picture.Statement.{statement}
 use Rattle.actor.proofs.picture.stamp_picture.Tie as tie
@@ -40,7 +41,14 @@ returns-3 c =
     let down = rw (toZ-ofZ w32 (a .y) (fits .y)) at (span-of2 .ensures) in
     stamp-made _ _ _ _ _ _ _ _ _ _ _ _ _ (pre .some) across down _ _ (c .before .before .stamp-box .ensures)
 
+stamp-box-requires : tie.Need-stamp-box-requires
+stamp-box-requires c κs =
+    let at-span-of2 = c .before .before .before .before .before in
+    let pre = at-span-of2 .before .before .before .before .before .pre in
+    stamp-room _ _ _ _ _ _ _ _ _ _ _ _ pre (at-span-of2 .before .span-of .ensures) (at-span-of2 .span-of2 .ensures) (c .before .before .before .if1 .left)
+    (c .before .if2 .left)
+
 pub stamp-picture-spec : {M : Type 1} → statement M
 stamp-picture-spec =
     tie.close (
-    tie.spec (λ c κs. search needs) (λ c κs. search needs) returns returns-2 (λ c κs. search needs) (λ c. search needs) returns-3)
+    tie.spec (λ c κs. search needs) (λ c κs. search needs) returns returns-2 stamp-box-requires (λ c. omega arith) returns-3)
