@@ -132,7 +132,7 @@ enum {
     KG_STACK_HEADER = 2048,     /**< kg_header, kg_name, kg_name_number */
     KG_STACK_ACTOR = 1024,      /**< kg_hidden, kg_stamp, kg_cast */
     KG_STACK_COSTUME = 1024,    /**< kg_start, kg_tick, kg_limb_draws */
-    KG_STACK_WRITE = 6144,      /**< kg_write_smap, kg_write_plane */
+    KG_STACK_WRITE = 3072,      /**< kg_write_smap, kg_write_plane */
     KG_STACK_COMPARE = 8192     /**< kg_compare */
 };
 
