@@ -14,7 +14,7 @@ use lib.Seq.{drop-cons, drop-drop, drop-at, drop-nil}
 use mir.Val.{Fits}
 use mir.Syntax.{w8}
 use Rattle.bits.specs.declared.Cursor.{Cursor}
-use Rattle.bits.specs.Bits.{lowBits, bitsOf, got, pull, rest, wordAt, Held, Full}
+use Rattle.bits.specs.Bits.{lowBits, bitsOf, got, pull, rest, wordAt, Held, Full, Views}
 use Rattle.bits.specs.Reader.{Fetches, Hands, Shows, One}
 use Rattle.bits.proofs.BitLaws.{pull-low, low-join, low-split, low-drop, length-low, got-value, got-tail, pull-is, pull-drop}
 
@@ -60,6 +60,25 @@ drop-bytes (suc a) (b ∷ s) =
     ∙ sym (drop-drop (8 * a) 8 (lowBits 8 b ++ bitsOf s))
     ∙ ap (drop (8 * a)) (drop-at (lowBits 8 b) (bitsOf s) 8 (length-low 8 b))
     ∙ drop-bytes a s
+
+pub bits-long : (s : List ℕ) → length (bitsOf s) ≡ 8 * length s
+unfolding bitsOf
+bits-long [] = refl
+bits-long (b ∷ s) = length-append (lowBits 8 b) (bitsOf s) ∙ omega (arith, length-low 8 b, bits-long s)
+
+-- the bits from bit p on, in the eight bytes from its byte on
+pub view-front : (s : List ℕ) (p : ℕ) → p / 8 + 8 ≤ length s → ((i : ℕ) → Fits w8 (getD s i 0))
+    → Views s p ((wordAt s (p / 8) + wordAt s (p / 8 + 4) * 4294967296) / 2 ^ (p % 8))
+view-front s p h byte =
+    let r = p % 8 in
+    let word = wordAt s (p / 8) + wordAt s (p / 8 + 4) * 4294967296 in
+    let after = bitsOf (drop (p / 8 + 8) s) in
+    let whole : p ≡ 8 * (p / 8) + p % 8 = omega arith in
+    let parts : 64 ≡ p % 8 + (64 - p % 8) = omega arith in
+    ap (λ (k : ℕ). drop k (bitsOf s)) whole
+    ∙ sym (drop-drop r (8 * (p / 8)) (bitsOf s))
+    ∙ ap (drop r) (drop-bytes (p / 8) s ∙ bits-eight s (p / 8) h byte ∙ ap (λ (k : ℕ). lowBits k word ++ after) parts)
+    ∙ low-drop r (64 - r) word after
 
 -- ---- bits that are handed out
 

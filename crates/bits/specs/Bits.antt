@@ -1,8 +1,9 @@
 -- The bits of a body, read from bit 0 up, and numbers of n bits, low bit first (document 01, "Strips of pixels"); what of them a cursor
 -- has not handed out yet.
+use mathlib.Core.Path.{_≡_}
 use mathlib.Core.Bool.{Bool, true, false}
 use mathlib.Core.List.{List, [], _∷_, _++_}
-use Prim.Native.Nat.{ℕ, zero, suc, _+_, _*_, _/_, _%_, _^_, _≤_, _<_}
+use Prim.Native.Nat.{ℕ, zero, suc, _+_, _-_, _*_, _/_, _%_, _^_, _≤_, _<_}
 use lib.ListN.{length, drop, getD}
 use lib.Dec.{eqb}
 use Rattle.bits.specs.declared.Cursor.{Cursor}
@@ -55,3 +56,7 @@ Full s c = c .bits < 56 → length s ≤ c .at
 -- four bytes, the first lowest
 abbrev pub wordAt : List ℕ → ℕ → ℕ
 wordAt s at = getD s at 0 + (getD s (at + 1) 0 + (getD s (at + 2) 0 + getD s (at + 3) 0 * 256) * 256) * 256
+
+-- v is the number of the bits of s from bit p on, up to the end of the eighth byte from its byte on
+abbrev pub Views : List ℕ → (p v : ℕ) → Type 0
+Views s p v = drop p (bitsOf s) ≡ lowBits (64 - p % 8) v ++ bitsOf (drop (p / 8 + 8) s)

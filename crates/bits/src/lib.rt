@@ -1,11 +1,12 @@
 // The bits of a strip body, read from bit 0 of each byte up (document 01, "Strips of pixels") and fetched many at a time (change request 2): a cursor
-// by value, whose methods answer with the bits and the cursor behind them. Its fields are private, so that bits are read in no other way.
+// by value, whose methods answer with the bits and the cursor behind them. Its fields are private, so that bits are handed out in no other way;
+// `view` shows the bits from any place on and hands out none.
 ghost use mathlib.Core.Path.{_≡_};
 ghost use mathlib.Core.Bool.{true, false};
 ghost use mathlib.Core.List.{List};
-ghost use Prim.Native.Nat.{ℕ, _+_, _*_, _≤_, _<_, _^_};
+ghost use Prim.Native.Nat.{ℕ, _+_, _*_, _/_, _≤_, _<_, _^_};
 ghost use lib.ListN.{length};
-ghost use Rattle.bits.specs.Bits.{Held, rest, Full, wordAt};
+ghost use Rattle.bits.specs.Bits.{Held, rest, Full, wordAt, Views};
 ghost use Rattle.bits.specs.Reader.{Starts, Fetches, Hands, Shows, One};
 
 // A place among the bits of a body: the bit buffer `hold`, its number of bits, lowest first, and the bytes from `at` on not yet fetched.
@@ -161,4 +162,12 @@ fn eight(body: &[u8], at: usize) -> u64
     let low = word(body, at);
     let high = word(body, at + 4);
     low + high * 4294967296
+}
+
+// The bits from bit p on, at least 57 of them, where eight bytes are there from its byte on.
+pub fn view(body: &[u8], p: usize) -> u64
+    requires { ⌜ p / 8 + 8 ≤ length (now body) ⌝ }
+    ensures { λ r. ⌜ Views (now (body .entry)) p r ⌝ }
+{
+    eight(body, p / 8) >> (p % 8) as u32
 }

@@ -17,7 +17,7 @@ use Rattle.strip.specs.declared.Made.{Made}
 use Rattle.strip.specs.declared.Made.the-variants.{All}
 use Rattle.strip.specs.Strip.{madeOf}
 use Rattle.decode.specs.Outcome.{outcome, Skipped, Tested}
-use Rattle.decode.specs.WholeOps.{Row, nothing, after, threeBits, wholeOps, reach, Rows}
+use Rattle.decode.specs.WholeOps.{Row, nothing, after, threeBits, wholeOps, reach, packed, Rows}
 use Rattle.strip.specs.Place.{ahead, Gives, Stepped, keptBy}
 use Rattle.decode.proofs.WholeOpsLaws.{ops-skipped}
 use Rattle.strip.proofs.StripLaws.{made-prepend}
@@ -27,7 +27,7 @@ use Rattle.decode.proofs.OutcomeLaws.{outcome-is}
 -- ---- a row is small
 
 abbrev Bounded : Row → ℕ → Type 0
-Bounded r n = (r .bits ≤ n) × (r .pixels ≤ n) × (r .index ≤ 1)
+Bounded r n = (r .bits + 2 * r .index ≤ n) × (r .pixels ≤ n) × (r .index ≤ 1)
 
 bounded-none : (n : ℕ) → Bounded nothing n
 bounded-none n = (omega arith, omega arith, omega arith)
@@ -58,14 +58,26 @@ index-few zero w h le = omega arith
 index-few (suc zero) w h le = omega arith
 index-few (suc (suc i)) w h le = absurd (omega arith)
 
+-- the row of a byte
+module _ (second : Bool) (x : ℕ) where
+  abbrev pub found : Row
+  found = wholeOps second (lowBits 8 x)
+
+  pub bounds : Bounded found 8
+  bounds = subst (Bounded found) (length-low 8 x) (bounded-ops second (lowBits 8 x))
+
+  pub parts : (n : ℕ) → n ≡ packed found → (n % 16 ≡ found .bits) × (n / 16 % 16 ≡ found .pixels) × (n / 256 ≡ found .index)
+  parts n e =
+      let s0 = bounds .0 in
+      let s1 = bounds .1 in
+      let s2 = bounds .2 in
+      (omega (arith, e), omega (arith, e), omega (arith, e))
+
 -- ---- past a row's operations
 
 -- the next eight bits are x; what its row says is taken
 module _ (second : Bool) (w : ℕ) (s : List ℕ) (st to : State) (x u : ℕ) (behind : Cursor) (t : List ℕ) (seen : Hands 8 x (st .cur) behind)
     (rows : Rows second t) where
-  abbrev found : Row
-  found = wholeOps second (lowBits 8 x)
-
   abbrev row : ℕ
   row = getD t x 0
 
@@ -75,19 +87,11 @@ module _ (second : Bool) (w : ℕ) (s : List ℕ) (st to : State) (x u : ℕ) (b
   eight : (rest s (st .cur) ≡ lowBits 8 x ++ rest s behind) × (x < 256)
   eight = pull-is 8 x (rest s (st .cur)) (rest s behind) (seen .front s)
 
-  bounds : Bounded found 8
-  bounds = subst (Bounded found) (length-low 8 x) (bounded-ops second (lowBits 8 x))
+  said : (row % 16 ≡ found second x .bits) × (row / 16 % 16 ≡ found second x .pixels) × (row / 256 ≡ found second x .index)
+  said = parts second x row (rows .row x (eight .1))
 
-  parts : (row % 16 ≡ found .bits) × (row / 16 % 16 ≡ found .pixels) × (row / 256 ≡ found .index)
-  parts =
-      let e = rows .row x (eight .1) in
-      let s0 = bounds .0 in
-      let s1 = bounds .1 in
-      let s2 = bounds .2 in
-      (omega (arith, e), omega (arith, e), omega (arith, e))
-
-  far-is : far ≡ reach w found
-  far-is = ap₂ (λ (i j : ℕ). i + j * (2 + w)) (parts .0) (parts .2)
+  far-is : far ≡ reach w (found second x)
+  far-is = ap₂ (λ (i j : ℕ). i + j * (2 + w)) (said .0) (said .2)
 
   pub skip-skipped : Hands far u (st .cur) (to .cur) → to .i ≡ st .i + row / 16 % 16 → Skipped second w s st to
   skip-skipped taken ei =
@@ -96,8 +100,8 @@ module _ (second : Bool) (w : ℕ) (s : List ℕ) (st to : State) (x u : ℕ) (b
       let split = eight .0 in
       record {
         on = λ k.
-            let m : to .i - st .i + k ≡ found .pixels + k = omega (arith, ei, parts .1) in
-            let lo : reach w found ≤ length (lowBits 8 x ++ rest s behind) = rw (← split) (omega (arith, far-is, long)) in
+            let m : to .i - st .i + k ≡ found second x .pixels + k = omega (arith, ei, said .1) in
+            let lo : reach w (found second x) ≤ length (lowBits 8 x ++ rest s behind) = rw (← split) (omega (arith, far-is, long)) in
             ap₂ (λ (j : ℕ) (q : List Bool). outcome second w j 0 q) m split
             ∙ ops-skipped second w (lowBits 8 x) (rest s behind) k lo
             ∙ ap (outcome second w k 0)

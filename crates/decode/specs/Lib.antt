@@ -1,3 +1,4 @@
 pub mod Paint
 pub mod Outcome
 pub mod WholeOps
+pub mod Leap

@@ -1,5 +1,6 @@
 // The body of one strip to its pixels by rows, or the number of its refusal (document 01, "Strips of pixels"); and its test, which paints
 // nothing.
+mod leap;
 mod painting;
 mod placing;
 mod rows;

@@ -1,6 +1,7 @@
-// The test of a strip: its operations without their colours, many at once by a table of rows.
+// The test of a strip: its operations without their colours, many at once by a table of rows: leaps where there is room (src/leap.rt), and with
+// care where there is not.
 ghost use mathlib.Core.Path.{_≡_};
-ghost use mathlib.Core.Bool.{Bool, true};
+ghost use mathlib.Core.Bool.{Bool, true, false};
 ghost use mathlib.Core.List.{List};
 ghost use Prim.Native.Nat.{ℕ, _+_, _*_, _/_, _%_, _≤_, _<_};
 ghost use lib.ListN.{length, drop, getD};
@@ -8,9 +9,11 @@ ghost use Rattle.bits.specs.Bits.{Held, bitsOf};
 ghost use Rattle.strip.specs.Picture.{rawOf, codedOf, stripOf};
 ghost use Rattle.decode.specs.WholeOps.{Rows, Small};
 ghost use Rattle.decode.specs.Outcome.{outcome, testOf, Skipped, Tested};
+ghost use Rattle.decode.specs.Leap.{Begun, Quick};
+use crate::leap::start;
+use crate::leap::start_two;
 use crate::rows::first_rows;
 use crate::rows::second_rows;
-use bits::Cursor;
 use number::wide_u16;
 use strip::Kind;
 use strip::Made;
@@ -21,6 +24,18 @@ use strip::operations::fits;
 use strip::operations::kept;
 use strip::operations::refill;
 use strip::operations::step;
+
+// What the tests of two strips come to.
+pub struct Pair {
+    pub a: Made,
+    pub b: Made,
+}
+
+// A body that is worth leaps: its method, 1 or 2, and its index width. Method 0 is no such body.
+struct Way {
+    method: u32,
+    w: u32,
+}
 
 // How many bits a row's operations take.
 fn reach_of(row: usize, w: u32) -> u32
@@ -88,17 +103,12 @@ fn turn(body: &[u8], second: bool, w: u32, total: usize, rows: &[u16], from: Sta
     step(second, w, total, st)
 }
 
-// The test of the operations of a body, whose first colour is pixel 0. No refusal depends on a colour or a step, so any will do.
-pub(crate) fn test_bits(body: &[u8], second: bool, w: u32, total: usize, rows: &[u16]) -> Made
-    requires { ⌜ (w ≤ 8) × (1 ≤ total) × (total ≤ 1600) × (2 ≤ length (now body)) × (256 ≤ length (now rows)) × Rows second (now rows) ⌝ }
+// The rest of the test of the operations of a body, from the place `from` on.
+fn finish(body: &[u8], second: bool, w: u32, total: usize, rows: &[u16], from: State) -> Made
+    requires { ⌜ (w ≤ 8) × (total ≤ 1600) × (256 ≤ length (now rows)) × Rows second (now rows) × Begun second w total (now body) from ⌝ }
     ensures { λ r. ⌜ r ≡ outcome second w total 1 (bitsOf (drop 2 (now (body .entry)))) ⌝ }
 {
-    let mut st = State {
-        i: 1,
-        colour: 0,
-        step: 0,
-        cur: Cursor::new(2),
-    };
+    let mut st = from;
     while st.i < total {
         match turn(body, second, w, total, rows, st) {
             Next::Go(to) => {
@@ -110,6 +120,15 @@ pub(crate) fn test_bits(body: &[u8], second: bool, w: u32, total: usize, rows: &
         }
     }
     Made::All
+}
+
+// The test of the operations of a body, whose first colour is pixel 0: leaps, and behind them turns.
+pub(crate) fn test_bits(body: &[u8], second: bool, w: u32, total: usize, rows: &[u16]) -> Made
+    requires { ⌜ (w ≤ 8) × (1 ≤ total) × (total ≤ 1600) × (2 ≤ length (now body)) × (256 ≤ length (now rows)) × Rows second (now rows) ⌝ }
+    ensures { λ r. ⌜ r ≡ outcome second w total 1 (bitsOf (drop 2 (now (body .entry)))) ⌝ }
+{
+    let st = start(body, second, w, total, rows);
+    finish(body, second, w, total, rows, st)
 }
 
 fn test_raw(body: &[u8], h: usize) -> Made
@@ -158,4 +177,74 @@ pub fn test_strip(body: &[u8], h: usize) -> Made
         } => test_coded(body, second, width, h),
         Kind::Unknown => Made::Refused(6),
     }
+}
+
+fn method_of(second: bool) -> u32
+    ensures { λ r. ⌜ (r ≡ 1 → second ≡ false) × (r ≡ 2 → second ≡ true) ⌝ }
+{
+    if second { 2 } else { 1 }
+}
+
+// How a strip body of h rows is tested with another.
+fn way_of(body: &[u8], h: usize) -> Way
+    ensures { λ r. ⌜ (r .method ≡ 1 → Quick false h (now (body .entry)) (r .w)) × (r .method ≡ 2 → Quick true h (now (body .entry)) (r .w)) ⌝ }
+{
+    if body.len() < 96 {
+        return Way { method: 0, w: 0 };
+    }
+    if h == 0 {
+        return Way { method: 0, w: 0 };
+    }
+    match kind_of(body[0]) {
+        Kind::Raw => Way { method: 0, w: 0 },
+        Kind::Coded {
+            second,
+            vertical: _,
+            clear: _,
+            width,
+        } => Way {
+            method: method_of(second),
+            w: width,
+        },
+        Kind::Unknown => Way { method: 0, w: 0 },
+    }
+}
+
+fn test_each(x: &[u8], y: &[u8], h: usize) -> Pair
+    requires { ⌜ h ≤ 200 ⌝ }
+    ensures { λ r. ⌜ (r .a ≡ testOf (stripOf h (now (x .entry)))) × (r .b ≡ testOf (stripOf h (now (y .entry)))) ⌝ }
+{
+    let a = test_strip(x, h);
+    let b = test_strip(y, h);
+    Pair { a: a, b: b }
+}
+
+fn test_both(x: &[u8], wx: u32, y: &[u8], wy: u32, second: bool, h: usize, rows: &[u16]) -> Pair
+    requires { ⌜ (h ≤ 200) × Quick second h (now x) wx × Quick second h (now y) wy × (256 ≤ length (now rows)) × Rows second (now rows) ⌝ }
+    ensures { λ r. ⌜ (r .a ≡ testOf (stripOf h (now (x .entry)))) × (r .b ≡ testOf (stripOf h (now (y .entry)))) ⌝ }
+{
+    let two = start_two(x, wx, y, wy, second, 8 * h, rows);
+    let from_a = two.a;
+    let from_b = two.b;
+    let a = finish(x, second, wx, 8 * h, rows, from_a);
+    let b = finish(y, second, wy, 8 * h, rows, from_b);
+    Pair { a: a, b: b }
+}
+
+// The tests of two strip bodies of h rows: at once where they have one method.
+pub fn test_two(x: &[u8], y: &[u8], h: usize) -> Pair
+    requires { ⌜ h ≤ 200 ⌝ }
+    ensures { λ r. ⌜ (r .a ≡ testOf (stripOf h (now (x .entry)))) × (r .b ≡ testOf (stripOf h (now (y .entry)))) ⌝ }
+{
+    let u = way_of(x, h);
+    let v = way_of(y, h);
+    if (u.method == 1) & (v.method == 1) {
+        let rows = first_rows();
+        return test_both(x, u.w, y, v.w, false, h, &rows);
+    }
+    if (u.method == 2) & (v.method == 2) {
+        let rows = second_rows();
+        return test_both(x, u.w, y, v.w, true, h, &rows);
+    }
+    test_each(x, y, h)
 }

@@ -247,3 +247,32 @@ boxed-ext w x0 y0 bw bh f g same i o =
     (λ p q. boxed-in w x0 y0 bw bh f i o a b p q ∙ same (i % w - x0) (i / w - y0) o (omega arith) (omega arith) ∙ sym (boxed-in w x0 y0 bw bh g i o a b p q))
     (λ m. boxed-out w x0 y0 bw bh f i o m ∙ sym (boxed-out w x0 y0 bw bh g i o m)))
     (λ m. boxed-off w x0 y0 bw bh f i o m ∙ sym (boxed-off w x0 y0 bw bh g i o m))
+
+-- a box whose cells stay
+pub box-kept : (w x0 y0 bw bh : ℕ) (f : ℕ → ℕ → ℕ → ℕ) (l : List ℕ) → ((c r o : ℕ) → c < bw → r < bh → f c r o ≡ o) → l ≡ upd (boxed w x0 y0 bw bh f) l
+box-kept w x0 y0 bw bh f l stays =
+    sym
+    (upd-id (boxed w x0 y0 bw bh f) l
+    (λ i o. within-cases y0 bh (i / w)
+    (λ a b. within-cases x0 bw (i % w)
+    (λ p q. boxed-in w x0 y0 bw bh f i o a b p q ∙ stays (i % w - x0) (i / w - y0) o (omega arith) (omega arith))
+    (boxed-out w x0 y0 bw bh f i o))
+    (boxed-off w x0 y0 bw bh f i o)))
+
+-- a box over the same box
+pub box-over : (w x0 y0 bw bh : ℕ) (f g : ℕ → ℕ → ℕ → ℕ) (l px qx : List ℕ)
+    → px ≡ upd (boxed w x0 y0 bw bh f) l
+    → qx ≡ upd (boxed w x0 y0 bw bh g) px
+    → qx ≡ upd (boxed w x0 y0 bw bh (λ c r o. g c r (f c r o))) l
+box-over w x0 y0 bw bh f g l px qx e q =
+    upd-then _ _ _ _ _ _
+    (λ i o. within-cases y0 bh (i / w)
+    (λ a b. within-cases x0 bw (i % w)
+    (λ c d. boxed-in w x0 y0 bw bh g i (boxed w x0 y0 bw bh f i o) a b c d
+    ∙ ap (g (i % w - x0) (i / w - y0)) (boxed-in w x0 y0 bw bh f i o a b c d)
+    ∙ sym (boxed-in w x0 y0 bw bh (λ c r o. g c r (f c r o)) i o a b c d))
+    (λ m. boxed-out w x0 y0 bw bh g i (boxed w x0 y0 bw bh f i o) m ∙ boxed-out w x0 y0 bw bh f i o m
+    ∙ sym (boxed-out w x0 y0 bw bh (λ c r o. g c r (f c r o)) i o m)))
+    (λ m. boxed-off w x0 y0 bw bh g i (boxed w x0 y0 bw bh f i o) m ∙ boxed-off w x0 y0 bw bh f i o m
+    ∙ sym (boxed-off w x0 y0 bw bh (λ c r o. g c r (f c r o)) i o m)))
+    e q

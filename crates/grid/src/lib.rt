@@ -1,5 +1,6 @@
 // Writes into flat buffers that are read as grids: a strip of pixels, and rows of a mask plane.
 ghost use mathlib.Core.Path.{_≡_};
+ghost use mathlib.Core.Bool.{false};
 ghost use Prim.Native.Nat.{_+_, _-_, _*_, _≤_};
 ghost use lib.ListN.{length};
 ghost use Rattle.grid.specs.Grid.{upd, boxed, Inside};
@@ -78,6 +79,34 @@ pub fn put_rows(
     while r < n {
         let at = (top + r) * width + s;
         masks[at] = mask_over(rows[r], masks[at], replace);
+        r += 1;
+    }
+}
+
+// Joins n copies of one mask byte to rows of strip s of plane k, from row y0. A byte with no bit set changes nothing: no row is touched.
+pub fn join_run(
+    masks: &mut [u8],
+    width: usize,
+    h: usize,
+    planes: usize,
+    k: usize,
+    s: usize,
+    y0: usize,
+    value: u8,
+    n: usize,
+)
+    requires { ⌜ Plane (length (now masks)) width h planes k s y0 n ⌝ }
+    ensures { λ _. ⌜ now (masks .exit)
+        ≡ upd (boxed width s ((k - 1) * h + y0) 1 n (λ c r o. maskOver false value o)) (now (masks .entry)) ⌝ }
+{
+    if value == 0 {
+        return;
+    }
+    let top = (k - 1) * h + y0;
+    let mut r = 0;
+    while r < n {
+        let at = (top + r) * width + s;
+        masks[at] = masks[at] | value;
         r += 1;
     }
 }

@@ -1,3 +1,4 @@
 pub mod CellLaws
 pub mod BoxLaws
 pub mod LoadLaws
+pub mod JoinLaws

@@ -6,10 +6,16 @@ ghost use mathlib.Core.Bool.{true, false};
 ghost use Prim.Native.Nat.{_-_, _+_, _*_, _≤_, _<_};
 ghost use lib.ListN.{length};
 ghost use Rattle.grid.specs.Grid.{upd, boxed};
+ghost use Rattle.grid.specs.Mask.{maskOver, rowsOver, Plane};
+ghost use Rattle.plane.specs.Mask.{rowsOf, literals};
 ghost use Rattle.table.specs.Table.{tableRight};
-ghost use Rattle.table.specs.Body.{pixelAt, maskAt};
-ghost use Rattle.table.specs.Test.{stripTest, blockTest};
+ghost use Rattle.table.specs.Body.{rowValues, pixelAt, maskAt};
+ghost use Rattle.table.specs.Test.{rowsTest, stripTest, blockTest};
 ghost use Rattle.table.specs.declared.Test.the-variants.{Passed};
+use grid::join_run;
+use grid::put_rows;
+use plane::Rows;
+use plane::rows_at;
 
 // Strip k of an SMAP block at column 8k of the pixels, over its full height. No pixel of a background is transparent.
 pub fn paint_strip(room: &[u8], n: usize, h: usize, b: usize, z: usize, k: usize, pixels: &mut [u8])
@@ -40,8 +46,45 @@ pub fn paint_background(room: &[u8], n: usize, h: usize, b: usize, z: usize, pix
     }
 }
 
-// Strip k of a ZP block into plane `plane` of the masks, over its full height. Plane p, strip s, row y stands at ((p - 1) * h + y) * n + s.
-pub fn paint_rows(
+// The rows of a mask strip's body joined to strip k of plane `plane` of the masks. Runs of zero rows are passed over.
+fn join_body(
+    body: &[u8],
+    n: usize,
+    h: usize,
+    planes: usize,
+    plane: usize,
+    k: usize,
+    masks: &mut [u8],
+)
+    requires { ⌜ rowsTest (rowsOf (now body) h (literals 0)) ≡ Passed ⌝ }
+    requires { ⌜ Plane (length (now masks)) n h planes plane k 0 h ⌝ }
+    ensures { λ _. ⌜ now (masks .exit)
+        ≡ upd (boxed n k ((plane - 1) * h) 1 h (rowsOver (rowValues (rowsOf (now (body .entry)) h (literals 0))) false)) (now (masks .entry)) ⌝ }
+{
+    let mut at: usize = 0;
+    let mut i: usize = 0;
+    while i < h {
+        match rows_at(body, at, h - i) {
+            Rows::Literals(m) => {
+                put_rows(masks, n, h, planes, plane, k, i, &body[at + 1..], m, false);
+                i += m;
+                at = at + 1 + m;
+            }
+            Rows::Copies(m) => {
+                join_run(masks, n, h, planes, plane, k, i, body[at + 1], m);
+                i += m;
+                at += 2;
+            }
+            Rows::Refuse(_) => {
+                return;
+            }
+        }
+    }
+}
+
+// Strip k of a ZP block joined to plane `plane` of the masks, over its full height. Plane p, strip s, row y stands at ((p - 1) * h + y) * n + s.
+// A strip without a body is all zero: it changes nothing.
+fn join_strip(
     room: &[u8],
     n: usize,
     h: usize,
@@ -57,14 +100,22 @@ pub fn paint_rows(
     requires { ⌜ stripTest true n h (now room) b z k ≡ Passed ⌝ }
     requires { ⌜ (planes ≤ 4) × (1 ≤ plane) × (plane ≤ planes) × (n * (planes * h) ≤ length (now masks)) ⌝ }
     ensures { λ _. ⌜ now (masks .exit)
-        ≡ upd (boxed n k ((plane - 1) * h) 1 h (λ c r o. maskAt n h (now (room .entry)) b z k r)) (now (masks .entry)) ⌝ }
+        ≡ upd (boxed n k ((plane - 1) * h) 1 h (λ c r o. maskOver false (maskAt n h (now (room .entry)) b z k r) o)) (now (masks .entry)) ⌝ }
 {
-    let mut scratch = [0u8; 200];
-    table::read_rows(room, n, h, b, z, k, &mut scratch);
-    grid::put_rows(masks, n, h, planes, plane, k, 0, &scratch, h, true);
+    if table::offset_at(room, true, b, k) != 0 {
+        join_body(
+            table::strip_body(room, true, n, b, z, k),
+            n,
+            h,
+            planes,
+            plane,
+            k,
+            masks,
+        );
+    }
 }
 
-// Every strip of a ZP block.
+// Every strip of a ZP block, over a plane that is cleared first: a strip then costs what its body holds, and its zero rows nothing more.
 pub fn paint_plane(
     room: &[u8],
     n: usize,
@@ -81,9 +132,10 @@ pub fn paint_plane(
     ensures { λ _. ⌜ now (masks .exit)
         ≡ upd (boxed n 0 ((plane - 1) * h) n h (λ s y o. maskAt n h (now (room .entry)) b z s y)) (now (masks .entry)) ⌝ }
 {
+    clear_plane(n, h, planes, plane, masks);
     let mut s: usize = 0;
     while s < n {
-        paint_rows(room, n, h, b, z, planes, plane, s, masks);
+        join_strip(room, n, h, b, z, planes, plane, s, masks);
         s += 1;
     }
 }

@@ -16,7 +16,7 @@ pub enum Rows {
 }
 
 // The operation at a place with `left` rows to go. Passing the last row is tested before missing bytes.
-fn rows_at(body: &[u8], at: usize, left: usize) -> Rows
+pub fn rows_at(body: &[u8], at: usize, left: usize) -> Rows
     requires { ⌜ 1 ≤ left ⌝ }
     ensures { λ r. ⌜ RowsAt (now (body .entry)) at left r ⌝ }
 {

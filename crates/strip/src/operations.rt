@@ -161,7 +161,7 @@ fn one(second: bool, w: u32, total: usize, st: State) -> Next
 }
 
 // How many pixels a run of n gives: 0 means 256.
-fn run_pixels(n: u64) -> usize
+pub fn run_pixels(n: u64) -> usize
     requires { ⌜ n < 256 ⌝ }
     ensures { λ r. ⌜ (r ≡ runPixels n) × (1 ≤ r) × (r ≤ 256) ⌝ }
 {

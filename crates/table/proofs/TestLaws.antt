@@ -1,5 +1,5 @@
 -- Laws of the test of a whole block: one strip more.
-use mathlib.Core.Path.{_≡_, refl, ap}
+use mathlib.Core.Path.{_≡_, refl, sym, ap, _∙_}
 use Prim.Native.Nat.{ℕ, zero, suc, _+_}
 use native.Mathlib.Omega.{arith}
 use borrow.Author.Tests.{eq-eqb, ne-eqb}
@@ -14,9 +14,17 @@ use Rattle.strip.specs.declared.Made.the-variants as made
 use Rattle.plane.specs.Mask.{rowsOf, literals}
 use Rattle.table.specs.Table.{offsetAt}
 use Rattle.table.specs.Body.{bodyOf, rowsAt}
-use Rattle.table.specs.Test.{leftmost, pictureTest, rowsTest, stripTest}
+use Rattle.table.specs.Test.{andThen, leftmost, pictureTest, rowsTest, stripTest}
 use Rattle.table.specs.declared.Test.{Test}
 use Rattle.table.specs.declared.Test.the-variants.{Passed, Refused}
+
+then-then : (a b c : Test) → andThen (andThen a b) c ≡ andThen a (andThen b c)
+then-then Passed b c = refl
+then-then (Refused n) b c = refl
+
+then-passed : (a : Test) → andThen a Passed ≡ a
+then-passed Passed = refl
+then-passed (Refused n) = refl
 
 module _ (test : ℕ → Test) where
   pub leftmost-none : (k m : ℕ) → m ≡ 0 → leftmost test k m ≡ Passed
@@ -32,6 +40,24 @@ module _ (test : ℕ → Test) where
     pub leftmost-stop : (n : ℕ) → test k ≡ Refused n → leftmost test k m ≡ Refused n
     unfolding leftmost
     leftmost-stop n h = rw (more, h)
+
+  leftmost-two : (k m rest : ℕ) → m ≡ suc (suc rest) → leftmost test k m ≡ andThen (andThen (test k) (test (k + 1))) (leftmost test (k + 2) rest)
+  unfolding leftmost
+  leftmost-two k m rest more =
+      let on : k + 1 + 1 ≡ k + 2 = omega arith in
+      ap (leftmost test k) more
+      ∙ ap (λ (j : ℕ). andThen (test k) (andThen (test (k + 1)) (leftmost test j rest))) on
+      ∙ sym (then-then (test k) (test (k + 1)) (leftmost test (k + 2) rest))
+
+  pub two-pass : (k m rest : ℕ) → m ≡ suc (suc rest) → andThen (test k) (test (k + 1)) ≡ Passed → leftmost test k m ≡ leftmost test (k + 2) rest
+  two-pass k m rest more h = leftmost-two k m rest more ∙ ap (λ (t : Test). andThen t (leftmost test (k + 2) rest)) h
+
+  pub two-stop : (k m rest : ℕ) → m ≡ suc (suc rest) → (n : ℕ) → andThen (test k) (test (k + 1)) ≡ Refused n → leftmost test k m ≡ Refused n
+  two-stop k m rest more n h = leftmost-two k m rest more ∙ ap (λ (t : Test). andThen t (leftmost test (k + 2) rest)) h
+
+  pub leftmost-last : (k m : ℕ) → m ≡ 1 → leftmost test k m ≡ test k
+  unfolding leftmost
+  leftmost-last k m e = ap (leftmost test k) e ∙ then-passed (test k)
 
 -- the test of a strip, from the answer of reading it
 pub tested-passes : (p : Picture) → testOf p ≡ All → Passed ≡ pictureTest p

@@ -5,10 +5,11 @@ ghost use mathlib.Core.Bool.{true, false};
 ghost use Prim.Native.Nat.{_+_, _-_, _*_, _≤_, _<_};
 ghost use lib.ListN.{length};
 ghost use Rattle.strip.specs.Strip.{Filled};
-ghost use Rattle.strip.specs.Picture.{Answered};
+ghost use Rattle.strip.specs.Picture.{Picture, Answered};
+ghost use Rattle.decode.specs.Outcome.{testOf};
 ghost use Rattle.table.specs.Table.{offsetSize, tableEnd, offsetAt, offsetRight, bodiless, tableRight};
 ghost use Rattle.table.specs.Body.{bodyEnd, bodyOf, stripAt, rowsAt};
-ghost use Rattle.table.specs.Test.{stripTest, blockTest};
+ghost use Rattle.table.specs.Test.{andThen, pictureTest, stripTest, blockTest};
 use number::read_le16;
 use number::read_le32;
 use strip::Answer;
@@ -90,7 +91,7 @@ pub fn body_end(room: &[u8], mask: bool, n: usize, b: usize, z: usize, k: usize)
 }
 
 // The body of strip k, which has one, in a block whose table is right.
-fn strip_body(room: &[u8], mask: bool, n: usize, b: usize, z: usize, k: usize) -> &[u8]
+pub fn strip_body(room: &[u8], mask: bool, n: usize, b: usize, z: usize, k: usize) -> &[u8]
     requires { ⌜ (k < n) × (n ≤ 128) × (b ≤ z) × (z ≤ length (now room)) ⌝ }
     requires { ⌜ tableRight mask n (now room) b z ≡ true ⌝ }
     requires { ⌜ bodiless mask (offsetAt mask (now room) b k) ≡ false ⌝ }
@@ -141,16 +142,46 @@ pub fn read_rows(
     plane::mask_rows(strip_body(room, true, n, b, z, k), h, out)
 }
 
+fn test_of(made: Made) -> Test
+    ensures { λ r. ⌜ ((p : Picture) → made ≡ testOf p → r ≡ pictureTest p) ⌝ }
+{
+    match made {
+        Made::All => Test::Passed,
+        Made::Refused(number) => Test::Refused(number),
+    }
+}
+
+// The first refusal of two.
+fn and_then(a: Test, b: Test) -> Test
+    ensures { λ r. ⌜ r ≡ andThen a b ⌝ }
+{
+    match a {
+        Test::Passed => b,
+        Test::Refused(number) => Test::Refused(number),
+    }
+}
+
 // The test of strip k of an SMAP block whose table is right.
 fn test_picture(room: &[u8], n: usize, h: usize, b: usize, z: usize, k: usize) -> Test
     requires { ⌜ (h ≤ 200) × (k < n) × (n ≤ 128) × (b ≤ z) × (z ≤ length (now room)) ⌝ }
     requires { ⌜ tableRight false n (now room) b z ≡ true ⌝ }
     ensures { λ r. ⌜ r ≡ stripTest false n h (now (room .entry)) b z k ⌝ }
 {
-    match decode::test::test_strip(strip_body(room, false, n, b, z, k), h) {
-        Made::All => Test::Passed,
-        Made::Refused(number) => Test::Refused(number),
-    }
+    test_of(decode::test::test_strip(strip_body(room, false, n, b, z, k), h))
+}
+
+// The test of the strips k and k + 1 of an SMAP block whose table is right.
+fn test_pictures(room: &[u8], n: usize, h: usize, b: usize, z: usize, k: usize) -> Test
+    requires { ⌜ (h ≤ 200) × (k + 1 < n) × (n ≤ 128) × (b ≤ z) × (z ≤ length (now room)) ⌝ }
+    requires { ⌜ tableRight false n (now room) b z ≡ true ⌝ }
+    ensures { λ r. ⌜ r ≡ andThen (stripTest false n h (now (room .entry)) b z k) (stripTest false n h (now (room .entry)) b z (k + 1)) ⌝ }
+{
+    let x = strip_body(room, false, n, b, z, k);
+    let y = strip_body(room, false, n, b, z, k + 1);
+    let two = decode::test::test_two(x, y, h);
+    let first = two.a;
+    let last = two.b;
+    and_then(test_of(first), test_of(last))
 }
 
 // The test of strip k of a ZP block whose table is right.
@@ -181,6 +212,22 @@ fn test_strip(room: &[u8], mask: bool, n: usize, h: usize, b: usize, z: usize, k
     }
 }
 
+// The test of the strips k and k + 1.
+fn test_pair(room: &[u8], mask: bool, n: usize, h: usize, b: usize, z: usize, k: usize) -> Test
+    requires { ⌜ (h ≤ 200) × (k + 1 < n) × (n ≤ 128) × (b ≤ z) × (z ≤ length (now room)) ⌝ }
+    requires { ⌜ tableRight mask n (now room) b z ≡ true ⌝ }
+    ensures { λ r. ⌜ r ≡ andThen (stripTest mask n h (now (room .entry)) b z k) (stripTest mask n h (now (room .entry)) b z (k + 1)) ⌝ }
+{
+    if mask {
+        and_then(
+            test_rows(room, n, h, b, z, k),
+            test_rows(room, n, h, b, z, k + 1),
+        )
+    } else {
+        test_pictures(room, n, h, b, z, k)
+    }
+}
+
 // The test of a whole block of n strips of h rows.
 pub fn test_block(room: &[u8], mask: bool, n: usize, h: usize, b: usize, z: usize) -> Test
     requires { ⌜ (h ≤ 200) × (n ≤ 128) × (b ≤ z) × (z ≤ length (now room)) ⌝ }
@@ -190,15 +237,18 @@ pub fn test_block(room: &[u8], mask: bool, n: usize, h: usize, b: usize, z: usiz
         return Test::Refused(5);
     }
     let mut k: usize = 0;
-    while k < n {
-        match test_strip(room, mask, n, h, b, z, k) {
+    while k + 1 < n {
+        match test_pair(room, mask, n, h, b, z, k) {
             Test::Passed => {
-                k += 1;
+                k += 2;
             }
             Test::Refused(number) => {
                 return Test::Refused(number);
             }
         }
+    }
+    if k < n {
+        return test_strip(room, mask, n, h, b, z, k);
     }
     Test::Passed
 }
