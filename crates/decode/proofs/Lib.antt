@@ -1,6 +1,1 @@
 pub mod PaintLaws
-pub mod OutcomeLaws
-pub mod WholeOpsLaws
-pub mod RowLaws
-pub mod SkipLaws
-pub mod LeapLaws

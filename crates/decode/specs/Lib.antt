@@ -1,4 +1,1 @@
 pub mod Paint
-pub mod Outcome
-pub mod WholeOps
-pub mod Leap

@@ -1,10 +1,7 @@
-// The body of one strip to its pixels by rows, or the number of its refusal (document 01, "Strips of pixels"); and its test, which paints
-// nothing.
-mod leap;
+// The body of one strip to its pixels by rows, or the number of its refusal (document 01, "Strips of pixels"). Its test, which paints nothing, is
+// crate strip_test.
 mod painting;
 mod placing;
-mod rows;
-pub mod test;
 
 ghost use Prim.Native.Nat.{_*_, _≤_};
 ghost use lib.ListN.{length, drop};

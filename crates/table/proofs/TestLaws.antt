@@ -6,7 +6,7 @@ use borrow.Author.Tests.{eq-eqb, ne-eqb}
 use mathlib.Core.Bool.{true}
 use mathlib.Core.List.{List}
 use Rattle.strip.specs.Strip.{Strip, refused, values, madeOf}
-use Rattle.decode.specs.Outcome.{testOf}
+use Rattle.strip_test.specs.Outcome.{testOf}
 use Rattle.strip.specs.Picture.{Picture, refusal, picture, answerOf}
 use Rattle.strip.specs.declared.Answer.the-variants as answer
 use Rattle.strip.specs.declared.Made.the-variants.{All}

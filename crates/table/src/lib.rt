@@ -6,7 +6,7 @@ ghost use Prim.Native.Nat.{_+_, _-_, _*_, _≤_, _<_};
 ghost use lib.ListN.{length};
 ghost use Rattle.strip.specs.Strip.{Filled};
 ghost use Rattle.strip.specs.Picture.{Picture, Answered};
-ghost use Rattle.decode.specs.Outcome.{testOf};
+ghost use Rattle.strip_test.specs.Outcome.{testOf};
 ghost use Rattle.table.specs.Table.{offsetSize, tableEnd, offsetAt, offsetRight, bodiless, tableRight};
 ghost use Rattle.table.specs.Body.{bodyEnd, bodyOf, stripAt, rowsAt};
 ghost use Rattle.table.specs.Test.{andThen, pictureTest, stripTest, blockTest};
@@ -167,7 +167,7 @@ fn test_picture(room: &[u8], n: usize, h: usize, b: usize, z: usize, k: usize) -
     requires { ⌜ tableRight false n (now room) b z ≡ true ⌝ }
     ensures { λ r. ⌜ r ≡ stripTest false n h (now (room .entry)) b z k ⌝ }
 {
-    test_of(decode::test::test_strip(strip_body(room, false, n, b, z, k), h))
+    test_of(strip_test::test_strip(strip_body(room, false, n, b, z, k), h))
 }
 
 // The test of the strips k and k + 1 of an SMAP block whose table is right.
@@ -178,7 +178,7 @@ fn test_pictures(room: &[u8], n: usize, h: usize, b: usize, z: usize, k: usize) 
 {
     let x = strip_body(room, false, n, b, z, k);
     let y = strip_body(room, false, n, b, z, k + 1);
-    let two = decode::test::test_two(x, y, h);
+    let two = strip_test::test_two(x, y, h);
     let first = two.a;
     let last = two.b;
     and_then(test_of(first), test_of(last))

@@ -1,7 +1,7 @@
 use mathlib.Core.Path.{ap, _∙_}
 use denote.Ref.{now}
 use Rattle.strip.specs.Picture.{stripOf}
-use Rattle.decode.specs.Outcome.{testOf}
+use Rattle.strip_test.specs.Outcome.{testOf}
 use Rattle.table.specs.Body.{stripAt}
 use Rattle.table.specs.Test.{stripTest}
 use borrow.Author.Needs.{needs}

@@ -2,7 +2,7 @@ use mathlib.Core.Path.{ap, ap₂, _∙_}
 use Prim.Native.Nat.{_+_}
 use denote.Ref.{now}
 use Rattle.strip.specs.Picture.{stripOf}
-use Rattle.decode.specs.Outcome.{testOf}
+use Rattle.strip_test.specs.Outcome.{testOf}
 use Rattle.table.specs.Body.{stripAt}
 use Rattle.table.specs.Test.{stripTest, andThen}
 use borrow.Author.Needs.{needs}

@@ -1,0 +1,5 @@
+pub mod OutcomeLaws
+pub mod WholeOpsLaws
+pub mod RowLaws
+pub mod SkipLaws
+pub mod LeapLaws
