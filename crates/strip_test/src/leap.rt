@@ -163,26 +163,27 @@ fn leaps(body: &[u8], second: bool, total: usize, table: &[u16], from: Spot) -> 
 // of the second's that stays leaves its spot as it is, and the leaps of one body go on from there.
 fn leaps_in_two(
     x: &[u8],
+    second_x: bool,
     tx: &[u16],
     y: &[u8],
+    second_y: bool,
     ty: &[u16],
-    second: bool,
     total: usize,
     from: Spot,
 ) -> Spots
     requires { ⌜ (256 ≤ length (now tx)) × (256 ≤ length (now ty)) × (from .p ≤ 65536) × (from .p ≤ 8 * length (now x)) × (from .p ≤ 8 * length (now y))
         × (from .i ≤ total) × (total ≤ 1600) ⌝ }
     ensures { λ r. ⌜ (r .a .p ≤ 65536) × (r .b .p ≤ 65536)
-        × ((w : ℕ) → w ≤ 8 → Leaps second w (now (tx .entry)) → Leapt second w total (now (x .entry)) from (r .a))
-        × ((w : ℕ) → w ≤ 8 → Leaps second w (now (ty .entry)) → Leapt second w total (now (y .entry)) from (r .b)) ⌝ }
+        × ((w : ℕ) → w ≤ 8 → Leaps «second_x» w (now (tx .entry)) → Leapt «second_x» w total (now (x .entry)) from (r .a))
+        × ((w : ℕ) → w ≤ 8 → Leaps «second_y» w (now (ty .entry)) → Leapt «second_y» w total (now (y .entry)) from (r .b)) ⌝ }
 {
     let end_x = bits_of(x);
     let end_y = bits_of(y);
     let mut a = from;
     let mut b = from;
     while roomy(end_x, total, a) & roomy(end_y, total, b) {
-        let to_a = leap(x, second, total, tx, a);
-        let to_b = leap(y, second, total, ty, b);
+        let to_a = leap(x, second_x, total, tx, a);
+        let to_b = leap(y, second_y, total, ty, b);
         if to_a.i <= a.i {
             return Spots { a: a, b: b };
         }
@@ -220,27 +221,38 @@ pub(crate) fn start(body: &[u8], second: bool, w: u32, total: usize, rows: &[u16
     state_at(body, leaps(body, second, total, &table, first))
 }
 
-// The same of two bodies of one method.
+// The same of two bodies.
 pub(crate) fn start_two(
     x: &[u8],
+    second_x: bool,
     wx: u32,
+    rows_x: &[u16],
     y: &[u8],
+    second_y: bool,
     wy: u32,
-    second: bool,
+    rows_y: &[u16],
     total: usize,
-    rows: &[u16],
 ) -> States
-    requires { ⌜ (wx ≤ 8) × (wy ≤ 8) × (1 ≤ total) × (total ≤ 1600) × (2 ≤ length (now x)) × (2 ≤ length (now y)) × (256 ≤ length (now rows))
-        × Rows second (now rows) ⌝ }
-    ensures { λ r. ⌜ Begun second wx total (now (x .entry)) (r .a) × Begun second wy total (now (y .entry)) (r .b) ⌝ }
+    requires { ⌜ (wx ≤ 8) × (wy ≤ 8) × (1 ≤ total) × (total ≤ 1600) × (2 ≤ length (now x)) × (2 ≤ length (now y)) ⌝ }
+    requires { ⌜ (256 ≤ length (now «rows_x»)) × Rows «second_x» (now «rows_x») × (256 ≤ length (now «rows_y»)) × Rows «second_y» (now «rows_y») ⌝ }
+    ensures { λ r. ⌜ Begun «second_x» wx total (now (x .entry)) (r .a) × Begun «second_y» wy total (now (y .entry)) (r .b) ⌝ }
 {
-    let tx = widen_rows(rows, wx);
-    let ty = widen_rows(rows, wy);
-    let two = leaps_in_two(x, &tx, y, &ty, second, total, Spot { p: 16, i: 1 });
+    let tx = widen_rows(rows_x, wx);
+    let ty = widen_rows(rows_y, wy);
+    let two = leaps_in_two(
+        x,
+        second_x,
+        &tx,
+        y,
+        second_y,
+        &ty,
+        total,
+        Spot { p: 16, i: 1 },
+    );
     let a = two.a;
     let b = two.b;
-    let last_a = state_at(x, leaps(x, second, total, &tx, a));
-    let last_b = state_at(y, leaps(y, second, total, &ty, b));
+    let last_a = state_at(x, leaps(x, second_x, total, &tx, a));
+    let last_b = state_at(y, leaps(y, second_y, total, &ty, b));
     States {
         a: last_a,
         b: last_b,

@@ -34,9 +34,10 @@ pub struct Pair {
     pub b: Made,
 }
 
-// A body that is worth leaps: its method, 1 or 2, and its index width. Method 0 is no such body.
+// Whether a body is worth leaps, and then its method and its index width.
 struct Way {
-    method: u32,
+    quick: bool,
+    second: bool,
     w: u32,
 }
 
@@ -182,34 +183,34 @@ pub fn test_strip(body: &[u8], h: usize) -> Made
     }
 }
 
-fn method_of(second: bool) -> u32
-    ensures { λ r. ⌜ (r ≡ 1 → second ≡ false) × (r ≡ 2 → second ≡ true) ⌝ }
-{
-    if second { 2 } else { 1 }
-}
-
 // How a strip body of h rows is tested with another.
 fn way_of(body: &[u8], h: usize) -> Way
-    ensures { λ r. ⌜ (r .method ≡ 1 → Quick false h (now (body .entry)) (r .w)) × (r .method ≡ 2 → Quick true h (now (body .entry)) (r .w)) ⌝ }
+    ensures { λ r. ⌜ (r .quick ≡ true → Quick (r .second) h (now (body .entry)) (r .w)) ⌝ }
 {
+    let none = Way {
+        quick: false,
+        second: false,
+        w: 0,
+    };
     if body.len() < 96 {
-        return Way { method: 0, w: 0 };
+        return none;
     }
     if h == 0 {
-        return Way { method: 0, w: 0 };
+        return none;
     }
     match kind_of(body[0]) {
-        Kind::Raw => Way { method: 0, w: 0 },
+        Kind::Raw => none,
         Kind::Coded {
             second,
             vertical: _,
             clear: _,
             width,
         } => Way {
-            method: method_of(second),
+            quick: true,
+            second: second,
             w: width,
         },
-        Kind::Unknown => Way { method: 0, w: 0 },
+        Kind::Unknown => none,
     }
 }
 
@@ -222,32 +223,50 @@ fn test_each(x: &[u8], y: &[u8], h: usize) -> Pair
     Pair { a: a, b: b }
 }
 
-fn test_both(x: &[u8], wx: u32, y: &[u8], wy: u32, second: bool, h: usize, rows: &[u16]) -> Pair
-    requires { ⌜ (h ≤ 200) × Quick second h (now x) wx × Quick second h (now y) wy × (256 ≤ length (now rows)) × Rows second (now rows) ⌝ }
+// Two bodies at once, each by the rows of its method.
+fn test_both(x: &[u8], u: Way, rows_x: &[u16], y: &[u8], v: Way, rows_y: &[u16], h: usize) -> Pair
+    requires { ⌜ (h ≤ 200) × Quick (u .second) h (now x) (u .w) × Quick (v .second) h (now y) (v .w) ⌝ }
+    requires { ⌜ (256 ≤ length (now «rows_x»)) × Rows (u .second) (now «rows_x») × (256 ≤ length (now «rows_y»)) × Rows (v .second) (now «rows_y») ⌝ }
     ensures { λ r. ⌜ (r .a ≡ testOf (stripOf h (now (x .entry)))) × (r .b ≡ testOf (stripOf h (now (y .entry)))) ⌝ }
 {
-    let two = start_two(x, wx, y, wy, second, 8 * h, rows);
+    let two = start_two(x, u.second, u.w, rows_x, y, v.second, v.w, rows_y, 8 * h);
     let from_a = two.a;
     let from_b = two.b;
-    let a = finish(x, second, wx, 8 * h, rows, from_a);
-    let b = finish(y, second, wy, 8 * h, rows, from_b);
+    let a = finish(x, u.second, u.w, 8 * h, rows_x, from_a);
+    let b = finish(y, v.second, v.w, 8 * h, rows_y, from_b);
     Pair { a: a, b: b }
 }
 
-// The tests of two strip bodies of h rows: at once where they have one method.
+// Two bodies at once that are worth leaps. The rows of a method are copied here, so a body's own alone where both have one method.
+fn test_quick(x: &[u8], u: Way, y: &[u8], v: Way, h: usize) -> Pair
+    requires { ⌜ (h ≤ 200) × Quick (u .second) h (now x) (u .w) × Quick (v .second) h (now y) (v .w) ⌝ }
+    ensures { λ r. ⌜ (r .a ≡ testOf (stripOf h (now (x .entry)))) × (r .b ≡ testOf (stripOf h (now (y .entry)))) ⌝ }
+{
+    if u.second {
+        let rows = second_rows();
+        if v.second {
+            return test_both(x, u, &rows, y, v, &rows, h);
+        }
+        let others = first_rows();
+        return test_both(x, u, &rows, y, v, &others, h);
+    }
+    let rows = first_rows();
+    if v.second {
+        let others = second_rows();
+        return test_both(x, u, &rows, y, v, &others, h);
+    }
+    test_both(x, u, &rows, y, v, &rows, h)
+}
+
+// The tests of two strip bodies of h rows: at once where both are worth leaps.
 pub fn test_two(x: &[u8], y: &[u8], h: usize) -> Pair
     requires { ⌜ h ≤ 200 ⌝ }
     ensures { λ r. ⌜ (r .a ≡ testOf (stripOf h (now (x .entry)))) × (r .b ≡ testOf (stripOf h (now (y .entry)))) ⌝ }
 {
     let u = way_of(x, h);
     let v = way_of(y, h);
-    if (u.method == 1) & (v.method == 1) {
-        let rows = first_rows();
-        return test_both(x, u.w, y, v.w, false, h, &rows);
-    }
-    if (u.method == 2) & (v.method == 2) {
-        let rows = second_rows();
-        return test_both(x, u.w, y, v.w, true, h, &rows);
+    if u.quick & v.quick {
+        return test_quick(x, u, y, v, h);
     }
     test_each(x, y, h)
 }

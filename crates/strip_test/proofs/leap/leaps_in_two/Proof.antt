@@ -9,12 +9,12 @@ use Rattle.strip_test.proofs.leap.leaps_in_two.Statement.{statement}
 use Rattle.strip_test.proofs.leap.leaps_in_two.Tie as tie
 
 abbrev Inv-loop : tie.InvT-loop
-Inv-loop x tx y ty second total end-x end-y a₀ b₀ a b =
+Inv-loop x sx tx y sy ty total end-x end-y a₀ b₀ a b =
     (a .p ≤ 65536) × (a .i ≤ 65536) × (b .p ≤ 65536) × (b .i ≤ 65536)
-    × ((w : ℕ) → w ≤ 8 → Leaps second w tx → Leapt second w total x a₀ a) × ((w : ℕ) → w ≤ 8 → Leaps second w ty → Leapt second w total y b₀ b)
+    × ((w : ℕ) → w ≤ 8 → Leaps sx w tx → Leapt sx w total x a₀ a) × ((w : ℕ) → w ≤ 8 → Leaps sy w ty → Leapt sy w total y b₀ b)
 
 abbrev μ-loop : tie.MeasureT-loop
-μ-loop x tx y ty second total end-x end-y a₀ b₀ a b = total - a .i
+μ-loop x sx tx y sy ty total end-x end-y a₀ b₀ a b = total - a .i
 
 loop-holds : tie.Need-loop-holds Inv-loop μ-loop
 loop-holds c =
@@ -23,8 +23,8 @@ loop-holds c =
       omega (arith, pre .5, pre .6),
       pre .2,
       omega (arith, pre .5, pre .6),
-      (λ w le table. leapt-none (a .second) w (a .total) (now (a .x)) (a .from) (pre .5) (pre .3)),
-      (λ w le table. leapt-none (a .second) w (a .total) (now (a .y)) (a .from) (pre .5) (pre .4)),
+      (λ w le table. leapt-none (a .second-x) w (a .total) (now (a .x)) (a .from) (pre .5) (pre .3)),
+      (λ w le table. leapt-none (a .second-y) w (a .total) (now (a .y)) (a .from) (pre .5) (pre .4)),
     )
 
 roomy-requires : tie.Need-roomy-requires Inv-loop μ-loop
@@ -80,8 +80,8 @@ loop-again c =
       omega (arith, f .1, ok-x .1, start .pre .6),
       omega (arith, g .0, ok-y .0, end-y .0),
       omega (arith, g .1, ok-y .1, start .pre .6),
-      (λ w le table. leapt-on (a .second) w (a .total) (now (a .x)) (a .from) (loop .a) (leap .result) (loop .inv .4 w le table) (f .2 w le table)),
-      (λ w le table. leapt-on (a .second) w (a .total) (now (a .y)) (a .from) (loop .b) (leap2 .result) (loop .inv .5 w le table) (g .2 w le table)),
+      (λ w le table. leapt-on (a .second-x) w (a .total) (now (a .x)) (a .from) (loop .a) (leap .result) (loop .inv .4 w le table) (f .2 w le table)),
+      (λ w le table. leapt-on (a .second-y) w (a .total) (now (a .y)) (a .from) (loop .b) (leap2 .result) (loop .inv .5 w le table) (g .2 w le table)),
     )
 
 returns-2 : tie.Need-returns-2 Inv-loop μ-loop
