@@ -9,8 +9,9 @@
 #     make show                        target/host/show, the picture of a room
 #     make compare                     target/host/compare, in what two rooms differ
 #     make write                       target/host/write, one block
+#     make list                        target/host/list, the long listing of a room
 #     make scene                       target/host/scene, a room in a window
-#     make programs                    example, show, compare and write
+#     make programs                    example, show, compare, write and list
 #     make picture                     docs/harbour.png, docs/winter.png, docs/compared.png, docs/cast.png and docs/scene.png, the README's
 #     make test                        ./test
 #     make check                       ./test, too
@@ -27,7 +28,7 @@ LIBRARY = target/staticlib/libkildegrom.a
 SHARED = target/shared/libkildegrom.so.$(VERSION)
 SONAME = libkildegrom.so.$(firstword $(subst ., ,$(VERSION)))
 OUT = target/host
-PROGRAMS = example show compare write
+PROGRAMS = example show compare write list
 COMPILE = $(CC) -std=c99 -Wall -Wextra -pedantic $(CFLAGS) -Iinclude
 PNG = $(shell pkg-config --libs libpng 2> /dev/null || echo -lpng)
 SDL = $(shell pkg-config --cflags --libs sdl2 2> /dev/null || echo -lSDL2)
@@ -64,7 +65,8 @@ $(PROGRAMS) scene beside: %: $(OUT)/%
 
 $(OUT)/example: host/example/example.c
 $(OUT)/write: host/write/write.c
-$(OUT)/example $(OUT)/write: $(OUT)/%: include/kildegrom.h $(LIBRARY)
+$(OUT)/list: host/list/list.c
+$(OUT)/example $(OUT)/write $(OUT)/list: $(OUT)/%: include/kildegrom.h $(LIBRARY)
 	@mkdir -p $(OUT)
 	$(COMPILE) host/$*/$*.c $(LIBRARY) $(LDFLAGS) -o $@
 
@@ -102,7 +104,7 @@ install-library: $(LIBRARY) $(SHARED)
 # as they stand here, and in bin/ are links to the scripts.
 COMMANDS = list play show compare check
 PARTS = tools/common.sh tools/calls tools/refusal include/kildegrom.h rooms/cellar.room rooms/cellar.calls
-STARTED = target/bin/list_room target/bin/player $(OUT)/show $(OUT)/compare target/cargo/release/kildegrom-check
+STARTED = target/bin/list_room target/bin/player $(OUT)/list $(OUT)/show $(OUT)/compare target/cargo/release/kildegrom-check
 FOLDERS = tools include rooms bin
 
 target/bin/list_room target/bin/player: target/bin/%: $(CRATES)

@@ -20,9 +20,11 @@ WAY = "#b3261e"
 BOXES = {
     "number": (0, 0, "numbers in bytes"), "bits": (0, 1, "a body's bits"), "grid": (0, 2, "rows of surfaces"), "cells": (0, 3, "eight at a time"),
     "block": (0, 0, "the block tree"), "table": (0, 1, "strip tables"), "decode": (0, 2, "a strip's pixels"),
-    "strip_test": (1, 2, "a strip's test"), "strip": (0, 3, "codes, operations"), "plane": (0, 4, "a mask strip's rows"), "strip_writer": (0, 5, "writes a body"),
+    "strip_test": (1, 2, "a strip's test"), "strip": (0, 3, "codes, operations"),
+    "plane": (0, 4, "a mask strip's rows"), "strip_writer": (0, 5, "writes a body"),
     "block_writer": (0, 6, "writes SMAP, ZP"), "room": (0, 0, "the whole test"), "image": (0, 1, "objects' images"),
-    "load": (1, 3, "loads a room"), "compare": (1, 4, "two rooms compared"), "objects": (0, 6, "headers, names"), "play": (0, 0, "draw, hide, back"),
+    "load": (1, 3, "loads a room"), "compare": (1, 4, "two rooms compared"),
+    "objects": (0, 6, "headers, names"), "object_list": (0, 5, "rows of objects"), "play": (0, 0, "draw, hide, back"),
     "verdict": (0, 1, "tests of images"), "session": (0, 2, "plan of a step"), "stored": (0, 3, "a session's bytes"),
     "repaint": (0, 4, "strips painted"), "layers": (0, 5, "strip of an image"), "point": (0, 6, "object at a point"),
     "replay": (1, 2, "a history again"), "scene": (1, 5, "what a session is"), "climb": (1, 6, "parents that open"),

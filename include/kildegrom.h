@@ -85,6 +85,7 @@ enum {
     KG_LIMBS = 16,
     KG_LIMB_SIZE = 16,
     KG_LIMBS_SIZE = 256,
+    KG_ROW_SIZE = 32,       /**< one object's row of kg_list */
     KG_DIFFERENCE_SIZE = 8, /**< one place of kg_compare's list */
     KG_ACTOR_SIZE = 32      /**< one struct kg_actor of kg_cast's list */
 };
@@ -102,6 +103,7 @@ enum {
     KG_MAX_CAST = 32,            /**< actors of a cast, from 0 on */
     KG_MAX_PIXELS = KG_MAX_WIDTH * KG_MAX_HEIGHT,                      /**< bytes of pixels that are enough for every room */
     KG_MAX_MASKS = KG_MAX_PLANES * (KG_MAX_WIDTH / 8) * KG_MAX_HEIGHT, /**< bytes of masks that are enough for every room */
+    KG_MAX_ROWS = KG_MAX_OBJECTS * KG_ROW_SIZE,                        /**< bytes of rows that are enough for every listing */
     KG_MAX_DIFFERENCES = (KG_MAX_WIDTH / 8) * KG_DIFFERENCE_SIZE       /**< bytes of a list that is enough for every comparison */
 };
 
@@ -130,10 +132,11 @@ enum {
     KG_STACK_TAKE_BACK = 24576, /**< kg_take_back */
     KG_STACK_OBJECT_AT = 24576, /**< kg_object_at */
     KG_STACK_HEADER = 4096,     /**< kg_header, kg_name, kg_name_number */
+    KG_STACK_LIST = 10240,      /**< kg_list */
     KG_STACK_ACTOR = 1024,      /**< kg_hidden, kg_stamp, kg_cast */
     KG_STACK_COSTUME = 1024,    /**< kg_start, kg_tick, kg_limb_draws */
     KG_STACK_WRITE = 3072,      /**< kg_write_smap, kg_write_plane */
-    KG_STACK_COMPARE = 8192     /**< kg_compare */
+    KG_STACK_COMPARE = 10240    /**< kg_compare */
 };
 
 /* ---- Records ---- */
@@ -161,8 +164,18 @@ enum {
     KG_HEADER_DIRECTION = 12 /**< where the actor then looks: E 0, W 1, N 2, S 3. kg_start counts otherwise: kg_costume_direction */
 };
 
-/** A little-endian u16 of a record or header. */
+/** Where the fields of an object's row of kg_list stand. */
+enum {
+    KG_ROW_HEADER = 0,       /**< the object's header, KG_HEADER_SIZE bytes, as kg_header gives it */
+    KG_ROW_NAME_START = 16,  /**< u32 (kg_u32): the first byte of its name, counted in the room; 0 where it has none */
+    KG_ROW_NAME_LENGTH = 20, /**< u32: the length of its name */
+    KG_ROW_STATES = 24       /**< u16: bit s - 1 for each state s from 1 to 9 that a draw can name, as kg_row_has_state reads it */
+};
+
+/** A little-endian u16 of a record, header or row. */
 static inline uint32_t kg_u16(const uint8_t *at) { return (uint32_t)at[0] | ((uint32_t)at[1] << 8); }
+/** A little-endian u32 of a row. */
+static inline uint32_t kg_u32(const uint8_t *at) { return kg_u16(at) | (kg_u16(at + 2) << 16); }
 /** A little-endian u16 of a header as a signed number (the walk point). */
 static inline int32_t kg_i16(const uint8_t *at) { int32_t n = (int32_t)kg_u16(at); return n < 32768 ? n : n - 65536; }
 
@@ -293,6 +306,22 @@ uint32_t kg_take_back(const uint8_t *room, size_t room_size, uint8_t *session, s
  * Refusals 1 to 8, 9, 14. */
 uint64_t kg_object_at(const uint8_t *room, size_t room_size, const uint8_t *session, size_t session_size, const uint8_t *flags,
                       size_t flags_size, uint32_t x, uint32_t y);
+
+/** Lists a room in one test: fills `record` as kg_record does, and in `rows` a row of KG_ROW_SIZE bytes for each object, object 1 first: its header
+ * as kg_header gives it, where its name stands as kg_name tells it, and which of its states can be drawn (KG_ROW_HEADER and so on; kg_row_at).
+ * Refusals 1 to 8: 4 where `record` has fewer than KG_RECORD_SIZE bytes or `rows` fewer than KG_ROW_SIZE for each object; KG_MAX_ROWS bytes are
+ * always enough. */
+uint32_t kg_list(const uint8_t *room, size_t room_size, uint8_t *record, size_t record_size, uint8_t *rows, size_t rows_size);
+
+/** The row of an object in kg_list's rows, objects counted from 1. */
+static inline const uint8_t *kg_row_at(const uint8_t *rows, uint32_t object) { return rows + (size_t)KG_ROW_SIZE * (object - 1); }
+
+/** Whether a state can be drawn: 1 where a draw of the row's object in that state isn't refused with 11, else 0. The state's image isn't tested by
+ * the listing: a draw may still be refused with 2 or 5 to 8 for it, or with 12 for its place. */
+static inline uint32_t kg_row_has_state(const uint8_t *row, uint32_t state)
+{
+    return state >= 1 && state <= 9 ? kg_u16(row + KG_ROW_STATES) >> (state - 1) & 1u : 0;
+}
 
 /** An object's header, objects counted from 1: CDHD's 13 bytes (KG_HEADER_ID and so on), then three zeros. Refusals 1 to 8, 11. */
 uint32_t kg_header(const uint8_t *room, size_t room_size, uint8_t *header, size_t header_size, uint32_t object);

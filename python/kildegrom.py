@@ -61,8 +61,8 @@ GREYS = bytes(level for level in range(256) for _ in range(3))
 WEST, EAST, SOUTH, NORTH = range(4)
 
 # The sizes of what is lent, named as in the header.
-RECORD_SIZE, HEADER_SIZE, SESSION_SIZE, LIMBS_SIZE, DIFFERENCE_SIZE = 16, 16, 450, 256, 8
-MAX_ROOM, MAX_WIDTH, MAX_HEIGHT, MAX_DIFFERENCES = 1048576, 1024, 200, 1024
+RECORD_SIZE, HEADER_SIZE, SESSION_SIZE, LIMBS_SIZE, ROW_SIZE, DIFFERENCE_SIZE = 16, 16, 450, 256, 32, 8
+MAX_ROOM, MAX_WIDTH, MAX_HEIGHT, MAX_ROWS, MAX_DIFFERENCES = 1048576, 1024, 200, 4096, 1024
 PALETTE_SIZE = 768
 
 _U32 = 0xFFFFFFFF
@@ -109,6 +109,7 @@ _CALLS = {
     "kg_hide": ("u32", "bbbbu"),
     "kg_take_back": ("u32", "bbbb"),
     "kg_object_at": ("u64", "bbbuu"),
+    "kg_list": ("u32", "bbb"),
     "kg_header": ("u32", "bbu"),
     "kg_name": ("u64", "bu"),
     "kg_name_number": ("u32", "bu"),
@@ -241,6 +242,10 @@ def _u16(data, at):
     return data[at] | data[at + 1] << 8
 
 
+def _u32(data, at):
+    return _u16(data, at) | _u16(data, at + 2) << 16
+
+
 def _i16(data, at):
     return (_u16(data, at) ^ 0x8000) - 0x8000
 
@@ -254,7 +259,7 @@ class Box(NamedTuple):
 
 
 class Object(NamedTuple):
-    """An object of a room, as its header and name say it."""
+    """An object of a room, as its header, its name and its image say it."""
     number: int             #: from 1
     id: int                 #: the id that pairs it with its image
     name: bytes             #: as the room has it, without the closing NUL; empty where it has none
@@ -263,6 +268,8 @@ class Object(NamedTuple):
     parent: int             #: the number of the object that contains it, 0 for none
     flags: int              #: bit 0x80: the parent's state must not be 0; without it, it must be 0
     direction: int          #: where the actor then looks: E 0, W 1, N 2, S 3 (costume_direction)
+    states: Tuple[int, ...]  #: the states that can be drawn, of 1 to 9: a draw of any other is refused with 11, and one of these only for its
+                             #: place (12) or its image (2 and 5 to 8), which isn't tested before the draw
 
     @property
     def text(self):
@@ -341,10 +348,11 @@ class Room(_Picture):
 
     def __init__(self, data):
         self.data = _bytes(data, "room")
-        record = _buffer(RECORD_SIZE)
-        _accept(_call("kg_record", self.data, record))
+        record, rows = _buffer(RECORD_SIZE), _buffer(MAX_ROWS)
+        _accept(_call("kg_list", self.data, record, rows))
         self.width, self.height, self.planes, self._count = (_u16(record, at) for at in (0, 2, 4, 6))
         self.transparent = record[8]
+        self._rows = bytes(rows[:ROW_SIZE * self._count])
         self._session = _buffer(SESSION_SIZE)
         self._pixels = _buffer(self.width * self.height)
         self._masks = _buffer(self.planes * (self.width // 8) * self.height)
@@ -450,7 +458,7 @@ class Room(_Picture):
 
     @property
     def objects(self):
-        """The room's objects as a list of Object."""
+        """The room's objects as a list of Object, as they were when the room was loaded: steps don't change them."""
         return list(self._objects)
 
     @functools.cached_property
@@ -458,13 +466,11 @@ class Room(_Picture):
         return tuple(self._object(number) for number in range(1, self._count + 1))
 
     def _object(self, number):
-        header = _buffer(HEADER_SIZE)
-        _accept(_call("kg_header", self.data, header, number))
-        _accept(_call("kg_name_number", self.data, number))
-        name = _call("kg_name", self.data, number)
-        start, length = name & _U32, name >> 32
-        return Object(number=number, id=_u16(header, 0), name=self.data[start:start + length], box=Box(*(8 * part for part in header[2:6])),
-                      walk=(_i16(header, 8), _i16(header, 10)), parent=header[7], flags=header[6], direction=header[12])
+        row = self._rows[ROW_SIZE * (number - 1):ROW_SIZE * number]
+        start, length, states = _u32(row, 16), _u32(row, 20), _u16(row, 24)
+        return Object(number=number, id=_u16(row, 0), name=self.data[start:start + length], box=Box(*(8 * part for part in row[2:6])),
+                      walk=(_i16(row, 8), _i16(row, 10)), parent=row[7], flags=row[6], direction=row[12],
+                      states=tuple(state for state in range(1, 10) if states >> (state - 1) & 1))
 
     def object_at(self, x, y, flags=None):
         """The number of the object under a point, 0 for none: the lowest-numbered one whose box holds the point, whose byte in `flags` is 0 and

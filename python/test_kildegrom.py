@@ -71,6 +71,44 @@ def state_of(room):
     return room.session, room.pixels, room.masks
 
 
+def cdhd(number):
+    """The header of an object of this id."""
+    return block(b"CDHD", struct.pack("<HBBBBBBhhB", number, 1, 2, 3, 4, 0x80, 0, -25, 40, 2))
+
+
+def listed_room(images, tags):
+    """A room of two objects, of which the first has an image of this numImages with the blocks IM0 and each of these letters."""
+    blocks = b"".join(block(b"IM0" + letter.encode(), b"") for letter in tags)
+    image = block(b"OBIM", blocks + block(b"IMHD", struct.pack("<8H", 7, images, 0, 0, 0, 0, 0, 0)))
+    return built_room(8, 1, bytes(8), rest=image + block(b"OBCD", cdhd(7)) + block(b"OBCD", cdhd(8)))
+
+
+def single(room, item):
+    """An object as kg_header and kg_name tell it, the states taken from the listing."""
+    header = kildegrom._buffer(16)
+    number, name = item.number, kildegrom._call("kg_name", room.data, item.number)
+    kildegrom._accept(kildegrom._call("kg_header", room.data, header, number))
+    kildegrom._accept(kildegrom._call("kg_name_number", room.data, number))
+    text = room.data[name & 0xFFFFFFFF:][:name >> 32]
+    fields = struct.unpack("<HBBBBBBhhB3x", bytes(header))
+    box = kildegrom.Box(*(8 * part for part in fields[1:5]))
+    return kildegrom.Object(number, fields[0], text, box, fields[7:9], fields[6], fields[5], fields[9], item.states)
+
+
+def drawable(room, number):
+    """The states of an object whose draw isn't refused with 11. 20 is no state, nor is 0."""
+    states = []
+    for state in range(21):
+        try:
+            room.draw(number, state)
+            room.back()
+        except Refused as refused:
+            if refused.number == 11:
+                continue
+        states.append(state)
+    return tuple(states)
+
+
 class Scratch(unittest.TestCase):
     """A folder for a test's files."""
 
@@ -106,9 +144,10 @@ class Header(unittest.TestCase):
         self.assertIn('KG_VERSION_TEXT "%s"' % kildegrom.VERSION, self.header)
 
     def test_sizes(self):
-        for name in ("RECORD_SIZE", "HEADER_SIZE", "SESSION_SIZE", "LIMBS_SIZE", "DIFFERENCE_SIZE", "MAX_ROOM", "MAX_WIDTH", "MAX_HEIGHT"):
+        for name in ("RECORD_SIZE", "HEADER_SIZE", "SESSION_SIZE", "LIMBS_SIZE", "ROW_SIZE", "DIFFERENCE_SIZE", "MAX_ROOM", "MAX_WIDTH", "MAX_HEIGHT"):
             self.assertRegex(self.header, r"\bKG_%s = %d\b" % (name, getattr(kildegrom, name)))
         self.assertEqual(kildegrom.MAX_DIFFERENCES, kildegrom.MAX_WIDTH // 8 * kildegrom.DIFFERENCE_SIZE)
+        self.assertRegex(self.header, r"KG_MAX_OBJECTS = %d\b" % (kildegrom.MAX_ROWS // kildegrom.ROW_SIZE))
         self.assertRegex(self.header, r"KG_WEST = 0, KG_EAST = 1, KG_SOUTH = 2, KG_NORTH = 3")
         self.assertEqual((kildegrom.WEST, kildegrom.EAST, kildegrom.SOUTH, kildegrom.NORTH), (0, 1, 2, 3))
 
@@ -171,6 +210,57 @@ class Listing(Scratch):
         self.assertEqual(door._replace(name=b"a\x81@\nb@").text, "a?@?b")
         self.assertEqual(door._replace(name=b"@@").text, "")
         self.assertEqual(door._replace(name=b"@a@").text, "@a")
+
+    def test_single_calls(self):
+        for path, room in good_rooms():
+            for item in room.objects:
+                self.assertEqual(item, single(room, item), path)
+                self.assertEqual(item.states, drawable(room, item.number), path)
+            self.assertEqual(room.objects, [single(room, item) for item in room.objects])
+            self.assertEqual(kildegrom._call("kg_header", room.data, kildegrom._buffer(16), len(room.objects) + 1), 11)
+
+    def test_states(self):
+        self.assertEqual([item.states for item in sample("cellar.room").objects], [(1, 2), (1, 2), ()])
+        for images, tags, states in ((0, "123", ()), (2, "123", (1, 2)), (9, "918", (1, 8, 9)), (256, "3", (3,)), (65535, ":0/A", ())):
+            item, other = Room(listed_room(images, tags)).objects
+            self.assertEqual((item.states, other.states), (states, ()), (images, tags))
+
+    def test_names(self):
+        texts = [b"cup@@", b"", b"\0", b"\0late", b"key\0rest", bytes(range(1, 256)), b"n" * 70000]
+        objects = b"".join(block(b"OBCD", cdhd(number) + block(b"OBNA", text)) for number, text in enumerate(texts))
+        room = Room(built_room(8, 1, bytes(8), rest=objects + block(b"OBCD", cdhd(9))))
+        self.assertEqual([item.name for item in room.objects], [text.split(b"\0")[0] for text in texts] + [b""])
+        starts = [kildegrom._u32(room._rows, 32 * number + 16) for number in range(8)]
+        self.assertEqual(starts, [kildegrom._call("kg_name", room.data, number) & 0xFFFFFFFF for number in range(1, 9)])
+        self.assertEqual(([start > 0 for start in starts], starts[1] + 8 + 21 + 8), ([True] * 7 + [False], starts[2]))
+
+    def test_many_objects(self):
+        for count in (0, 1, 128):
+            room = Room(built_room(8, 1, bytes(8), rest=b"".join(block(b"OBCD", cdhd(number)) for number in range(count))))
+            self.assertEqual([item.id for item in room.objects], list(range(count)))
+            self.assertEqual(len(room.listing()), count + 1)
+        self.refused(3, Room, built_room(8, 1, bytes(8), rest=block(b"OBCD", cdhd(1)) * 129))
+
+    def test_objects_stay(self):
+        room = sample("cellar.room")
+        before = room.objects
+        room.draw(1, 2, at=(0, 0))
+        room.objects.clear()
+        self.assertEqual(room.objects, before)
+
+    def test_one_call(self):
+        with unittest.mock.patch.object(kildegrom, "_call", wraps=kildegrom._call) as made:
+            room = sample("cellar.room")
+            self.assertEqual((len(room.objects), len(room.listing())), (3, 4))
+        self.assertEqual([call.args[0] for call in made.call_args_list], ["kg_list", "kg_load"])
+
+    def test_short_buffers(self):
+        data = read("rooms", "cellar.room")
+        for record_size, rows_size, number in ((16, 96, 0), (15, 96, 4), (16, 95, 4), (0, 0, 4), (17, 97, 0)):
+            record, rows = kildegrom._buffer(record_size), kildegrom._buffer(rows_size)
+            self.assertEqual(kildegrom._call("kg_list", data, record, rows), number)
+            if number != 0:
+                self.assertEqual((bytes(record), bytes(rows)), (bytes(record_size), bytes(rows_size)))
 
     def test_fields(self):
         room = sample("winter.room")

@@ -64,13 +64,14 @@ ready() {
     "$top/tools/progress" "${@:2}" || exit "$unwritten"
 }
 
-# copy_room FILE COPY: the bytes that the proved program is given. It takes 65,536; one more tells it, and us, that there are more.
+# copy_room FILE COPY: the bytes that the proved program is given. It takes so many at most; one more tells it, and us, that there are more.
+most=65536 most_said=65,536
 copy_room() {
     local reason
     need_file "$1"
-    reason=$(head -c 65537 < "$1" 2>&1 > "$2") || stop 2 "the file can't be read: $1: ${reason##*: }"
+    reason=$(head -c $((most + 1)) < "$1" 2>&1 > "$2") || stop 2 "the file can't be read: $1: ${reason##*: }"
 }
-is_long() { [ "$(wc -c < "$1")" -gt 65536 ]; }
+is_long() { [ "$(wc -c < "$1")" -gt "$most" ]; }
 
 # What a program wrote goes out whole, or the reason is told. Who closes a pipe early (status 141) needs none.
 write_out() { # TEXT
@@ -84,7 +85,7 @@ write_out() { # TEXT
 stop_if_refused() { # LINE FILE COPY
     local number=${1#refused }
     [ "$number" != "$1" ] || return 0
-    ! is_long "$3" || stop 1 "$2: refused $number: longer than 65,536 bytes"
+    ! is_long "$3" || stop 1 "$2: refused $number: longer than $most_said bytes"
     stop 1 "$2: refused $number: $("$top/tools/refusal" "$number")"
 }
 

@@ -1,9 +1,15 @@
 /* Calls every function of include/kildegrom.h over the C interface: the sample room is loaded, written again block by block, loaded from
- * what was written, an actor is stamped behind its plane, a cast is painted, and rooms are compared. Guard bytes stand around each lent
- * buffer. */
+ * what was written, an actor is stamped behind its plane, a cast is painted, rooms are listed and compared. Guard bytes stand around each
+ * lent buffer. */
 #include "room.h"
 
 enum { WIDTH = 320, HEIGHT = 144, STRIPS = WIDTH / 8 };
+
+static struct lent one_short(struct lent b)
+{
+    b.size--;
+    return b;
+}
 
 static void record_and_objects(struct lent room)
 {
@@ -133,6 +139,156 @@ static void points(struct lent room)
     give_back(flags);
 }
 
+static uint32_t listed(struct lent room, struct lent record, struct lent rows)
+{
+    return kg_list(room.at, room.size, record.at, record.size, rows.at, rows.size);
+}
+
+/* The cellar's listing against the calls that it stands for: kg_record, kg_header and kg_name, and draws in a fresh session. */
+static void list_against_the_calls(struct lent room)
+{
+    struct lent record = lend(KG_RECORD_SIZE, 0x77), alone = lend(KG_RECORD_SIZE, 0x78), rows = lend(3 * KG_ROW_SIZE, 0x79);
+    struct lent session = lend(KG_SESSION_SIZE, 0), pixels = lend(WIDTH * HEIGHT, 1), masks = lend(STRIPS * HEIGHT, 2);
+    uint32_t object, state;
+    expect(listed(room, record, rows) == KG_ACCEPTED, "a listing with buffers exactly long enough");
+    expect(kg_record(room.at, room.size, alone.at, alone.size) == KG_ACCEPTED && memcmp(record.at, alone.at, record.size) == 0, "its record");
+    for (object = 1; object <= 3; object++) {
+        const uint8_t *row = kg_row_at(rows.at, object);
+        const uint64_t name = kg_name(room.at, room.size, object);
+        expect(kg_header(room.at, room.size, alone.at, alone.size, object) == KG_ACCEPTED, "the header of a listed object");
+        expect(memcmp(row + KG_ROW_HEADER, alone.at, KG_HEADER_SIZE) == 0, "a row's header");
+        expect(kg_u32(row + KG_ROW_NAME_START) == kg_name_start(name) && kg_u32(row + KG_ROW_NAME_LENGTH) == kg_name_length(name), "a row's name");
+        for (state = 0; state <= 16; state++) {
+            memset(session.at, 0, session.size);
+            expect((kg_draw_last(BUFFERS, object, state) != KG_NO_SUCH_OBJECT) == (kg_row_has_state(row, state) == 1), "a state that can be drawn");
+        }
+        expect(kg_u16(row + KG_ROW_STATES) == (object < 3 ? 3u : 0u) && all(row + 26, 6, 0), "a row's states, and its end");
+    }
+    give_back(record);
+    give_back(alone);
+    give_back(rows);
+    give_back(session);
+    give_back(pixels);
+    give_back(masks);
+}
+
+/* What is lent is exactly long enough, longer, or short; a refused listing changes neither record nor rows. */
+static void list_lengths(struct lent room)
+{
+    struct lent record = lend(KG_RECORD_SIZE + 5, 0x77), rows = lend(KG_MAX_ROWS + 3, 0x79), few_rows = rows, short_record = record;
+    size_t size;
+    for (size = 0; size < 3 * KG_ROW_SIZE; size++) {
+        few_rows.size = size;
+        expect(listed(room, record, few_rows) == KG_BUFFER_SHORT, "rows too short");
+    }
+    for (size = 0; size < KG_RECORD_SIZE; size++) {
+        short_record.size = size;
+        expect(listed(room, short_record, rows) == KG_BUFFER_SHORT && listed(room, short_record, few_rows) == KG_BUFFER_SHORT, "a record too short");
+    }
+    expect(all(record.at, record.size, 0x77) && all(rows.at, rows.size, 0x79), "a refused listing changes nothing");
+    expect(listed(room, record, rows) == KG_ACCEPTED && kg_u16(record.at + KG_RECORD_OBJECTS) == 3, "longer buffers");
+    expect(all(record.at + KG_RECORD_SIZE, 5, 0x77), "the bytes behind the record stay");
+    expect(all(rows.at + 3 * KG_ROW_SIZE, rows.size - 3 * KG_ROW_SIZE, 0x79), "the bytes behind the last row stay");
+    give_back(record);
+    give_back(rows);
+}
+
+/* Blocks of objects and images, put behind a room's own. Objects 1 and 2 share id 5, whose first image has IM09, IM03 and an IM01 inside another
+ * block under numImages 9; object 3 has IM01 to IM03 without IM02 under numImages 2; object 4 has IM01 and IM10 under 0x0100; object 5 no image.
+ * Their names: up to a NUL; an empty OBNA, before one that isn't; no NUL; a NUL alone; no OBNA. */
+static const uint8_t listed_blocks[] = {
+    'O', 'B', 'C', 'D', 0, 0, 0, 41, 'O', 'B', 'N', 'A', 0, 0, 0, 12, 'k', '@', 0, 'x',
+    'C', 'D', 'H', 'D', 0, 0, 0, 21, 5, 0, 1, 2, 3, 4, 0x80, 9, 0xE7, 0xFF, 40, 0, 2,
+    'O', 'B', 'I', 'M', 0, 0, 0, 64, 'I', 'M', '0', '9', 0, 0, 0, 16, 'I', 'M', '0', '1', 0, 0, 0, 8,
+    'I', 'M', 'H', 'D', 0, 0, 0, 24, 5, 0, 9, 0, 0, 0, 0, 0, 0, 0, 0, 0, 8, 0, 8, 0, 'I', 'M', '0', '3', 0, 0, 0, 8, 'X', 'X', 'X', 'X', 0, 0, 0, 8,
+    'O', 'B', 'C', 'D', 0, 0, 0, 47, 'C', 'D', 'H', 'D', 0, 0, 0, 22, 5, 0, 0, 0, 0, 0, 0, 0, 0, 0, 0, 0, 0, 0x66,
+    'O', 'B', 'N', 'A', 0, 0, 0, 8, 'O', 'B', 'N', 'A', 0, 0, 0, 9, 'z',
+    'O', 'B', 'I', 'M', 0, 0, 0, 40, 'I', 'M', 'H', 'D', 0, 0, 0, 24, 5, 0, 9, 0, 0, 0, 0, 0, 0, 0, 0, 0, 8, 0, 8, 0, 'I', 'M', '0', '2', 0, 0, 0, 8,
+    'O', 'B', 'C', 'D', 0, 0, 0, 40, 'C', 'D', 'H', 'D', 0, 0, 0, 21, 6, 0, 0, 0, 0, 0, 0, 0, 0, 0, 0, 0, 0,
+    'O', 'B', 'N', 'A', 0, 0, 0, 11, 'c', 'u', 'p',
+    'O', 'B', 'I', 'M', 0, 0, 0, 48, 'I', 'M', 'H', 'D', 0, 0, 0, 24, 6, 0, 2, 0, 0, 0, 0, 0, 0, 0, 0, 0, 8, 0, 8, 0,
+    'I', 'M', '0', '1', 0, 0, 0, 8, 'I', 'M', '0', '3', 0, 0, 0, 8,
+    'O', 'B', 'C', 'D', 0, 0, 0, 38, 'C', 'D', 'H', 'D', 0, 0, 0, 21, 7, 1, 0, 0, 0, 0, 0, 0, 0, 0, 0, 0, 0, 'O', 'B', 'N', 'A', 0, 0, 0, 9, 0,
+    'O', 'B', 'I', 'M', 0, 0, 0, 48, 'I', 'M', 'H', 'D', 0, 0, 0, 24, 7, 1, 0, 1, 0, 0, 0, 0, 0, 0, 0, 0, 8, 0, 8, 0,
+    'I', 'M', '1', '0', 0, 0, 0, 8, 'I', 'M', '0', '1', 0, 0, 0, 8,
+    'O', 'B', 'C', 'D', 0, 0, 0, 29, 'C', 'D', 'H', 'D', 0, 0, 0, 21, 8, 0, 0, 0, 0, 0, 0, 0, 0, 0, 0, 0, 0,
+};
+
+/* Where each object's name stands in these blocks, 0 for none; its length; its states. */
+static const uint32_t listed_fields[5][3] = { { 16, 2, 0x104 }, { 143, 0, 0x104 }, { 229, 3, 1 }, { 317, 0, 1 }, { 0, 0, 0 } };
+
+/* A room of 8 by 1 pixels with these blocks. */
+static struct lent room_with_blocks(const uint8_t *blocks, size_t size)
+{
+    struct lent pixels = lend(8, 9), masks = lend(1, 0), bare = room_of(pixels, masks, 8, 1, 1), out = lend(bare.size + size, 0);
+    memcpy(out.at, bare.at, bare.size);
+    memcpy(out.at + bare.size, blocks, size);
+    put_head(out.at, "ROOM", (uint32_t)out.size);
+    give_back(pixels);
+    give_back(masks);
+    give_back(bare);
+    return out;
+}
+
+/* Rows of names and images of every kind, as the blocks above say them. */
+static void list_made_room(void)
+{
+    struct lent room = room_with_blocks(listed_blocks, sizeof listed_blocks), record = lend(KG_RECORD_SIZE, 0x77), rows = lend(5 * KG_ROW_SIZE, 0x79);
+    static const uint8_t first[KG_HEADER_SIZE] = { 5, 0, 1, 2, 3, 4, 0x80, 9, 0xE7, 0xFF, 40, 0, 2, 0, 0, 0 };
+    static const uint8_t second[KG_HEADER_SIZE] = { 5, 0, 0, 0, 0, 0, 0, 0, 0, 0, 0, 0, 0, 0, 0, 0 };
+    const uint32_t before = (uint32_t)(room.size - sizeof listed_blocks);
+    uint32_t o;
+    expect(listed(room, record, rows) == KG_ACCEPTED && kg_u16(record.at + KG_RECORD_OBJECTS) == 5, "the made room");
+    expect(memcmp(rows.at, first, sizeof first) == 0 && memcmp(kg_row_at(rows.at, 2), second, sizeof second) == 0, "CDHD's 13 bytes and no more");
+    for (o = 1; o <= 5; o++) {
+        const uint8_t *row = kg_row_at(rows.at, o);
+        const uint32_t *field = listed_fields[o - 1];
+        expect(kg_u32(row + KG_ROW_NAME_START) == (field[0] == 0 ? 0 : before + field[0]), "where a name stands, also an empty one");
+        expect(kg_u32(row + KG_ROW_NAME_LENGTH) == field[1] && kg_u16(row + KG_ROW_STATES) == field[2] && all(row + 26, 6, 0), "its length, the states");
+    }
+    give_back(room);
+    give_back(record);
+    give_back(rows);
+}
+
+/* 1, 2 and 3 go before 4, and 4 before 5 to 8; without objects no rows are needed. */
+static void list_refusals(void)
+{
+    struct lent record = lend(KG_RECORD_SIZE, 0x77), rows = lend(2 * KG_ROW_SIZE, 0x79), room = room_with_blocks(listed_blocks, sizeof listed_blocks);
+    struct lent bare = room_with_blocks(listed_blocks, 0), no_rows = rows;
+    no_rows.size = 0;
+    expect(listed(one_short(room), one_short(record), no_rows) == KG_NOT_A_ROOM, "1 before 4");
+    room.at[16] = 12;
+    expect(listed(room, one_short(record), rows) == KG_OUT_OF_SIZE, "3 before 4");
+    room.at[room.size - 18] = 'X';
+    expect(listed(room, one_short(record), rows) == KG_BLOCK_MISSING, "2 before 3, and before 4");
+    room.at[room.size - 18] = 'D';
+    room.at[16] = 8;
+    room.at[60] = 0x13;
+    expect(listed(room, record, rows) == KG_BUFFER_SHORT, "rows for two objects of five, before 6");
+    expect(all(record.at, record.size, 0x77) && all(rows.at, rows.size, 0x79), "refused listings change nothing");
+    expect(listed(bare, record, no_rows) == KG_ACCEPTED && kg_u16(record.at + KG_RECORD_OBJECTS) == 0, "no object, no rows");
+    expect(listed(bare, record, rows) == KG_ACCEPTED && all(rows.at, rows.size, 0x79), "rows without objects stay");
+    memset(record.at, 0x77, record.size);
+    bare.at[60] = 0x13;
+    expect(listed(bare, record, no_rows) == KG_CODE_UNKNOWN && listed(bare, one_short(record), no_rows) == KG_BUFFER_SHORT, "6 behind 4");
+    bare.at[56] = 0;
+    expect(listed(bare, record, no_rows) == KG_TABLE_WRONG && listed(bare, one_short(record), no_rows) == KG_BUFFER_SHORT, "5 behind 4");
+    expect(all(record.at, record.size, 0x77), "and leave the record");
+    give_back(record);
+    give_back(rows);
+    give_back(room);
+    give_back(bare);
+}
+
+static void listings(struct lent room)
+{
+    list_against_the_calls(room);
+    list_lengths(room);
+    list_made_room();
+    list_refusals();
+}
+
 /* One call out of the four, as the number picks it: a take-back where it is a multiple of 8. */
 static uint32_t call_picked(struct lent room, struct lent session, struct lent pixels, struct lent masks, uint32_t pick)
 {
@@ -201,12 +357,6 @@ static const struct kg_actor three_actors[3] = { { 9, 80, 2, 80, 8, 8, 1, 0 }, {
 static uint32_t cast_of(size_t count, struct lent list, struct lent frame, struct lent masks, struct lent pictures, uint32_t w)
 {
     return kg_cast((struct kg_actor *)(void *)list.at, count, frame.at, frame.size, masks.at, masks.size, pictures.at, pictures.size, w, HEIGHT, 1, 255);
-}
-
-static struct lent one_short(struct lent b)
-{
-    b.size--;
-    return b;
 }
 
 /* What refuses a cast, in its order. The list has 33 actors: the three, the one that is painted last first, and others like the first. */
@@ -514,6 +664,7 @@ int main(int argc, char **argv)
     load_and_write(room);
     steps(room);
     points(room);
+    listings(room);
     list_of_steps(room);
     casts(room);
     comparisons(room);

@@ -1,5 +1,5 @@
-/* Holds what include/kildegrom.h computes by itself against the library: sizes, bounds of the writers, readers of a session and of a list
- * of differences, directions. */
+/* Holds what include/kildegrom.h computes by itself against the library: sizes, bounds of the writers, readers of a session, of rows of
+ * objects and of a list of differences, directions. */
 #include "room.h"
 
 enum { WIDTH = 320, HEIGHT = 144, STRIPS = WIDTH / 8, OBJECTS = 3 };
@@ -258,6 +258,50 @@ static void read_differences(void)
     expect(is_difference(kg_difference_at(list, 2), 0x1234, 0x5678, 0x9A), "little-endian fields, and no more");
 }
 
+/* Little-endian numbers, and rows of 32 bytes counted from object 1. */
+static void read_rows(void)
+{
+    static uint8_t rows[KG_MAX_ROWS];
+    static const uint8_t numbers[6] = { 0x78, 0x56, 0x34, 0x92, 0xFF, 0xFF };
+    uint32_t object, state, bits;
+    expect(kg_u32(numbers) == 0x92345678u && kg_u32(numbers + 2) == 0xFFFF9234u && kg_u16(numbers) == 0x5678, "little-endian numbers");
+    for (object = 1; object <= KG_MAX_OBJECTS; object++) expect(kg_row_at(rows, object) == rows + 32 * (object - 1), "the row of an object");
+    expect(kg_row_at(rows, KG_MAX_OBJECTS) + KG_ROW_SIZE == rows + sizeof rows, "the rows of the most objects are KG_MAX_ROWS bytes");
+    for (bits = 0; bits < 0x10000; bits += bits < 0x400 ? 1 : 0x1FF) {
+        put_number(rows + 24, bits);
+        for (state = 0; state <= 40; state++) {
+            const uint32_t wanted = state >= 1 && state <= 9 ? bits >> (state - 1) & 1 : 0;
+            expect(kg_row_has_state(rows, state) == wanted, "a state's bit, and no bit for another number");
+        }
+        expect(kg_row_has_state(rows, 0x80000001u) == 0 && kg_row_has_state(rows, UINT32_MAX) == 0, "the largest numbers are no states");
+    }
+}
+
+/* The cellar's rows read by the fields' places: those that docs/LAYOUTS.md has. The library draws a state exactly where its row has it. */
+static void rows_against_the_calls(struct lent room)
+{
+    struct lent session = lend(KG_SESSION_SIZE, 0), pixels = lend(KG_MAX_PIXELS, 1), masks = lend(KG_MAX_MASKS, 2);
+    struct lent record = lend(KG_RECORD_SIZE, 3), rows = lend(KG_MAX_ROWS, 4);
+    uint32_t object, state;
+    expect(kg_list(room.at, room.size, record.at, record.size, rows.at, rows.size) == KG_ACCEPTED, "the listing");
+    expect(kg_u16(record.at + KG_RECORD_OBJECTS) == OBJECTS && all(rows.at + OBJECTS * KG_ROW_SIZE, rows.size - OBJECTS * KG_ROW_SIZE, 4), "its rows");
+    for (object = 1; object <= OBJECTS; object++) {
+        const uint8_t *row = kg_row_at(rows.at, object);
+        const uint64_t name = kg_name(room.at, room.size, object);
+        expect(kg_u16(row + KG_ROW_HEADER + KG_HEADER_ID) == 100 + object, "the ids");
+        expect(kg_u32(row + KG_ROW_NAME_START) == kg_name_start(name) && kg_u32(row + KG_ROW_NAME_LENGTH) == kg_name_length(name), "the names");
+        for (state = 0; state <= 20; state++) {
+            expect(kg_load(BUFFERS) == KG_ACCEPTED, "the load before a draw");
+            expect((kg_draw_last(BUFFERS, object, state) != KG_NO_SUCH_OBJECT) == (kg_row_has_state(row, state) != 0), "a draw against the row");
+        }
+    }
+    give_back(session);
+    give_back(pixels);
+    give_back(masks);
+    give_back(record);
+    give_back(rows);
+}
+
 /* CDHD's E 0, W 1, N 2, S 3 as kg_start's directions; other bytes stay, and the start refuses them. */
 static void directions(void)
 {
@@ -284,6 +328,8 @@ int main(int argc, char **argv)
     read_any_bytes(room);
     differences();
     read_differences();
+    read_rows();
+    rows_against_the_calls(room);
     directions();
     return passed(room);
 }

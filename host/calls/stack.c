@@ -11,6 +11,7 @@
 static uint8_t record[KG_RECORD_SIZE], header[KG_HEADER_SIZE], session[KG_SESSION_SIZE], pixels[KG_MAX_PIXELS], masks[KG_MAX_MASKS];
 static uint8_t flags[KG_MAX_OBJECTS], picture[KG_MAX_PICTURE_WIDTH * KG_MAX_PICTURE_HEIGHT], limbs[KG_LIMBS_SIZE], out[2 * KG_MAX_PIXELS];
 static uint8_t other[sizeof deep], list[DEEP_WIDTH / 8 * KG_DIFFERENCE_SIZE]; /* for kg_compare: another deep room, a list of its strips */
+static uint8_t rows[KG_MAX_ROWS]; /* for kg_list: exactly what the most objects need */
 static size_t other_size;
 static struct kg_actor cast[KG_MAX_CAST];
 static uint64_t answer;
@@ -28,6 +29,8 @@ static void ask_draw_at(void) { answer = kg_draw_at(LENT, 1, 2, 1, 3); }
 static void ask_hide(void) { answer = kg_hide(LENT, 1); }
 static void ask_take_back(void) { answer = kg_take_back(LENT); }
 static void ask_object_at(void) { answer = kg_object_at(deep, deep_size, session, sizeof session, flags, sizeof flags, 40, 100); }
+static void ask_list(void) { answer = kg_list(deep, deep_size, record, sizeof record, rows, sizeof rows); }
+static void ask_list_short(void) { answer = kg_list(deep, deep_size, record, sizeof record, rows, sizeof rows - 1); }
 static void ask_header(void) { answer = kg_header(deep, deep_size, header, sizeof header, KG_MAX_OBJECTS); }
 static void ask_name(void) { answer = kg_name(deep, deep_size, KG_MAX_OBJECTS) == 0; }
 static void ask_name_number(void) { answer = kg_name_number(deep, deep_size, KG_MAX_OBJECTS); }
@@ -79,6 +82,8 @@ static const struct question questions[] = {
     { "kg_take_back", ask_take_back, KG_STACK_TAKE_BACK, 64, 0, 0 },
     { "kg_object_at", ask_object_at, KG_STACK_OBJECT_AT, 0, 0, 1 },
     { "kg_object_at", ask_object_at, KG_STACK_OBJECT_AT, 64, 0, 1 },
+    { "kg_list", ask_list, KG_STACK_LIST, 0, 0, 0 },
+    { "kg_list", ask_list_short, KG_STACK_LIST, 0, KG_BUFFER_SHORT, 0 },
     { "kg_header", ask_header, KG_STACK_HEADER, 0, 0, 0 },
     { "kg_name", ask_name, KG_STACK_HEADER, 0, 0, 0 },
     { "kg_name_number", ask_name_number, KG_STACK_HEADER, 0, 0, 0 },
@@ -144,17 +149,31 @@ static void measure(const struct question *q)
     if (used > q->figure) stop(q->call, "it takes more stack than the header says");
 }
 
+/* Whether the rows are those of the deep room: its first objects have images of two states, the others none, and the last row has its own name. */
+static int listed_right(void)
+{
+    const uint8_t *last = kg_row_at(rows, KG_MAX_OBJECTS);
+    uint32_t o;
+    for (o = 1; o <= KG_MAX_OBJECTS; o++) {
+        if (kg_u16(kg_row_at(rows, o) + KG_ROW_STATES) != (o <= IMAGES ? 3u : 0u)) return 0;
+    }
+    return kg_u16(last + KG_HEADER_ID) == KG_MAX_OBJECTS && kg_u32(last + KG_ROW_NAME_LENGTH) == 1 && deep[kg_u32(last + KG_ROW_NAME_START)] == 'o';
+}
+
 int main(void)
 {
     size_t i;
     make_deep(KG_MAX_OBJECTS + 1, 0);
     ask_record();
     if (answer != KG_OUT_OF_SIZE) stop("kg_record", "a room with one object too many is taken");
+    ask_list();
+    if (answer != KG_OUT_OF_SIZE) stop("kg_list", "a room with one object too many is taken");
     make_deep(KG_MAX_OBJECTS, 4);
     memcpy(other, deep, deep_size);
     other_size = deep_size;
     make_deep(KG_MAX_OBJECTS, 0);
     make_payload();
     for (i = 0; i < sizeof questions / sizeof questions[0]; i++) measure(&questions[i]);
+    if (!listed_right()) stop("kg_list", "the rows are not those of the room");
     return 0;
 }

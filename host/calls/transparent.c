@@ -55,15 +55,20 @@ static struct lent room_with(uint8_t index)
     return out;
 }
 
-/* The record is that of a room with this index; the room is given back. */
+/* The record, of kg_record and of kg_list, is that of a room with this index; the room is given back. */
 static void records(struct lent room, uint8_t index, const char *what)
 {
     const uint8_t wanted[KG_RECORD_SIZE] = { WIDTH, 0, HEIGHT, 0, PLANES, 0, 1, 0, index, 0, 0, 0, 0, 0, 0, 0 };
-    struct lent record = lend(KG_RECORD_SIZE + 3, 0x77);
+    struct lent record = lend(KG_RECORD_SIZE + 3, 0x77), row = lend(KG_ROW_SIZE, 0x78);
     expect(kg_record(room.at, room.size, record.at, record.size) == KG_ACCEPTED, what);
     expect(memcmp(record.at, wanted, sizeof wanted) == 0 && all(record.at + sizeof wanted, 3, 0x77), what);
     expect(record.at[KG_RECORD_TRANSPARENT] == index, what);
+    memset(record.at, 0x77, record.size);
+    expect(kg_list(room.at, room.size, record.at, record.size, row.at, row.size) == KG_ACCEPTED, what);
+    expect(memcmp(record.at, wanted, sizeof wanted) == 0 && all(record.at + sizeof wanted, 3, 0x77), what);
+    expect(kg_u16(row.at + KG_ROW_STATES) == 3 && row.at[KG_HEADER_WIDTH] == 3, what);
     give_back(record);
+    give_back(row);
     give_back(room);
 }
 
@@ -121,6 +126,7 @@ static void refused_by_all(struct lent room, uint32_t number, const char *what)
     expect(kg_draw_last(BUFFERS, 1, 1) == number && kg_draw_at(BUFFERS, 1, 1, 0, 0) == number, what);
     expect(kg_hide(BUFFERS, 1) == number && kg_take_back(BUFFERS) == number, what);
     expect(kg_object_at(room.at, room.size, session.at, session.size, flags.at, flags.size, 0, 0) == number, what);
+    expect(kg_list(room.at, room.size, record.at, record.size, list.at, list.size) == number, what);
     expect(kg_header(room.at, room.size, record.at, record.size, 1) == number, what);
     expect(kg_name(room.at, room.size, 1) == 0 && kg_name_number(room.at, room.size, 1) == number, what);
     expect(kg_compare(room.at, room.size, right.at, right.size, list.at, list.size) == number, what);

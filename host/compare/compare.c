@@ -123,19 +123,14 @@ static void print_total(void)
     printf("\n");
 }
 
-static int headers_differ(uint32_t object)
-{
-    uint8_t first[KG_HEADER_SIZE], second[KG_HEADER_SIZE];
-    uint32_t one = kg_header(a.bench.room, a.bench.room_size, first, sizeof first, object);
-    uint32_t two = kg_header(b.bench.room, b.bench.room_size, second, sizeof second, object);
-    return one != two || (one == KG_ACCEPTED && memcmp(first, second, sizeof first) != 0);
-}
+static int headers_differ(uint32_t object) { return memcmp(bench_header(&a.bench, object), bench_header(&b.bench, object), KG_HEADER_SIZE) != 0; }
 
 static int names_differ(uint32_t object)
 {
-    uint64_t first = kg_name(a.bench.room, a.bench.room_size, object), second = kg_name(b.bench.room, b.bench.room_size, object);
-    uint32_t length = kg_name_length(first);
-    return length != kg_name_length(second) || memcmp(a.bench.room + kg_name_start(first), b.bench.room + kg_name_start(second), length) != 0;
+    const uint8_t *first = bench_row(&a.bench, object), *second = bench_row(&b.bench, object);
+    uint32_t length = kg_u32(first + KG_ROW_NAME_LENGTH);
+    return length != kg_u32(second + KG_ROW_NAME_LENGTH)
+           || memcmp(a.bench.room + kg_u32(first + KG_ROW_NAME_START), b.bench.room + kg_u32(second + KG_ROW_NAME_START), length) != 0;
 }
 
 /* Marks the objects, of those that both rooms have, for which the question is answered with yes. Whether there are any. */

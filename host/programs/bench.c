@@ -8,19 +8,13 @@
     (bench)->room, (bench)->room_size, (bench)->session, sizeof (bench)->session, (bench)->pixels, (bench)->pixels_size, (bench)->masks, \
         (bench)->masks_size
 
-static void take_objects(struct bench *bench)
-{
-    uint32_t object;
-    for (object = 1; object <= bench->objects; object++) {
-        kg_header(bench->room, bench->room_size, bench->headers[object - 1], KG_HEADER_SIZE, object);
-        bench->names[object - 1] = kg_name(bench->room, bench->room_size, object);
-    }
-}
+const uint8_t *bench_row(const struct bench *bench, uint32_t object) { return kg_row_at(bench->rows, object); }
+const uint8_t *bench_header(const struct bench *bench, uint32_t object) { return bench_row(bench, object) + KG_ROW_HEADER; }
 
 uint32_t bench_load(struct bench *bench)
 {
     uint8_t record[KG_RECORD_SIZE];
-    uint32_t number = kg_record(bench->room, bench->room_size, record, sizeof record);
+    uint32_t number = kg_list(bench->room, bench->room_size, record, sizeof record, bench->rows, sizeof bench->rows);
     if (number != KG_ACCEPTED) return number;
     bench->width = kg_u16(record + KG_RECORD_WIDTH);
     bench->height = kg_u16(record + KG_RECORD_HEIGHT);
@@ -29,7 +23,6 @@ uint32_t bench_load(struct bench *bench)
     bench->clear = record[KG_RECORD_TRANSPARENT];
     bench->pixels_size = kg_pixels_size(bench->width, bench->height);
     bench->masks_size = kg_masks_size(bench->width, bench->height, bench->planes);
-    take_objects(bench);
     return kg_load(LENT(bench));
 }
 
@@ -50,7 +43,7 @@ const char *bench_reason(const struct bench *bench, uint32_t number)
 
 int bench_box(const struct bench *bench, uint32_t object, struct box *box)
 {
-    const uint8_t *header = bench->headers[object - 1];
+    const uint8_t *header = bench_header(bench, object);
     struct kg_position position = kg_session_position(bench->session, object);
     box->left = 8 * (position.known ? position.a : header[KG_HEADER_X]);
     box->top = 8 * (position.known ? position.b : header[KG_HEADER_Y]);
@@ -61,9 +54,8 @@ int bench_box(const struct bench *bench, uint32_t object, struct box *box)
 
 void bench_name(const struct bench *bench, uint32_t object, char name[NAME_SIZE])
 {
-    uint64_t answer = bench->names[object - 1];
-    const uint8_t *bytes = bench->room + kg_name_start(answer);
-    size_t length = kg_name_length(answer), i;
+    const uint8_t *row = bench_row(bench, object), *bytes = bench->room + kg_u32(row + KG_ROW_NAME_START);
+    size_t length = kg_u32(row + KG_ROW_NAME_LENGTH), i;
     while (length > 0 && bytes[length - 1] == '@') length--;
     if (length > NAME_SIZE - 1) length = NAME_SIZE - 1;
     for (i = 0; i < length; i++) name[i] = (char)(bytes[i] >= ' ' && bytes[i] <= '~' ? bytes[i] : '?');

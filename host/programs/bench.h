@@ -10,16 +10,18 @@
  * and not cut. The sizes are those of the room that was loaded last. */
 struct bench {
     uint8_t room[KG_MAX_ROOM + 1], session[KG_SESSION_SIZE], pixels[KG_MAX_PIXELS], masks[KG_MAX_MASKS];
-    uint8_t headers[KG_MAX_OBJECTS][KG_HEADER_SIZE]; /* as kg_header answers for each object */
-    uint64_t names[KG_MAX_OBJECTS];                  /* as kg_name does */
+    uint8_t rows[KG_MAX_ROWS]; /* of the objects, as kg_list gives them */
     size_t room_size, pixels_size, masks_size;
     uint32_t width, height, planes, objects;
     uint8_t clear; /* the room's transparent colour */
 };
 
-/* Loads the room's bytes, of which there are room_size: kg_record, then kg_load. The number of the call that is refused. Headers and names
- * are asked for here, once: each such call tests the whole room, and a window needs them at every look. */
+/* Loads the room's bytes, of which there are room_size: kg_list, then kg_load. The number of the call that is refused. */
 uint32_t bench_load(struct bench *bench);
+
+/* An object's row, and its header in it. Objects are counted from 1 and are the room's, here and below. */
+const uint8_t *bench_row(const struct bench *bench, uint32_t object);
+const uint8_t *bench_header(const struct bench *bench, uint32_t object);
 
 /* Makes one call of a list: its number. */
 uint32_t bench_call(struct bench *bench, struct call call);
@@ -28,7 +30,7 @@ uint32_t bench_call(struct bench *bench, struct call call);
 const char *bench_reason(const struct bench *bench, uint32_t number);
 
 /* An object's box in pixels: CDHD's sizes, at the newest strip position, else at CDHD's place. It may pass the room's edges. 0 where the
- * object has none: a side is 0. Objects are counted from 1 and are the room's. */
+ * object has none: a side is 0. */
 struct box {
     uint32_t left, top, width, height;
 };

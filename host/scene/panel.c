@@ -67,7 +67,7 @@ static void put_object(struct column *column, uint32_t object)
     if (position.known) snprintf(place, sizeof place, "%lu %lu", (unsigned long)position.a, (unsigned long)position.b);
     snprintf(size, sizeof size, "%lu %lu %lux%lu", (unsigned long)box.left, (unsigned long)box.top, (unsigned long)box.width, (unsigned long)box.height);
     put_line(column, is_selected ? bright : ink, "%c%3lu%c%5lu %-12.12s %-6s %2s  %-14s %s", is_selected ? '>' : ' ', (unsigned long)object,
-             scene.flags[object - 1] ? 'u' : ' ', (unsigned long)kg_u16(bench->headers[object - 1] + KG_HEADER_ID), name, states, now, size, place);
+             scene.flags[object - 1] ? 'u' : ' ', (unsigned long)kg_u16(bench_header(bench, object) + KG_HEADER_ID), name, states, now, size, place);
 }
 
 /* As many objects as there are rows, the selected one among them. */

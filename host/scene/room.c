@@ -138,7 +138,7 @@ int ask_states(void)
         bench_load(&other);
     }
     for (state = 1; state <= 9; state++) {
-        if (can_draw(object, state)) scene.states[object] |= (uint16_t)(1u << state);
+        if (kg_row_has_state(bench_row(&scene.bench, object), state) && can_draw(object, state)) scene.states[object] |= (uint16_t)(1u << state);
     }
     scene.asked = object;
     scene.changed = 1;

@@ -122,7 +122,7 @@ static struct move move_of(uint32_t object)
 {
     struct move move = { 0, 0, 0, 0, 0, 0, 0, 0, 0 };
     struct kg_position position = kg_session_position(scene.bench.session, object);
-    const uint8_t *header = scene.bench.headers[object - 1];
+    const uint8_t *header = bench_header(&scene.bench, object);
     move.object = object;
     move.state = state_to_move(object);
     move.a = (int32_t)(position.known ? position.a : header[KG_HEADER_X]);

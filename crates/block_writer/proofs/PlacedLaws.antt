@@ -23,7 +23,7 @@ use Rattle.block_writer.proofs.CallLaws.{length-block, length-be32}
 
 -- ---- numbers in bytes, read back
 
-four-bytes : (v : ℕ) → v < 2 ^ 32 → v % 256 + (256 * (v / 256 % 256) + (65536 * (v / 65536 % 256) + 16777216 * (v / 16777216 % 256))) ≡ v
+pub four-bytes : (v : ℕ) → v < 2 ^ 32 → v % 256 + (256 * (v / 256 % 256) + (65536 * (v / 65536 % 256) + 16777216 * (v / 16777216 % 256))) ≡ v
 four-bytes v h =
     let e : v / 256 / 256 ≡ v / 65536 = div-div-eq-div-mul v 256 256 in
     let g : v / 65536 / 256 ≡ v / 16777216 = div-div-eq-div-mul v 65536 256 in

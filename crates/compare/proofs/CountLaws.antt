@@ -115,30 +115,38 @@ bit-none n x lt =
     let sum : x ≡ 0 * 2 ^ n + x = omega arith in
     ap (λ (y : ℕ). y / 2 ^ n % 2) sum ∙ ap (λ (y : ℕ). y % 2) (digits-div 0 lt)
 
+-- a number whose bit p is set where f holds of p, made of its lowest n bits: each bit, and no others
+module _ (f : ℕ → Bool) (made : ℕ → ℕ) (start : made 0 ≡ 0) (next : (n : ℕ) → made (suc n) ≡ made n + cond (f n) (2 ^ n) 0) where
+  pub bits-below : (n : ℕ) → made n < 2 ^ n
+  bits-below zero = omega (arith, start)
+  bits-below (suc n) = rw (next n) (go (f n) (bits-below n))
+    where
+      go : (t : Bool) → made n < 2 ^ n → made n + cond t (2 ^ n) 0 < 2 ^ suc n
+      go true lt = omega arith
+      go false lt = omega arith
+
+  pub bit-is : (n p : ℕ) → p < n → made n / 2 ^ p % 2 ≡ cond (f p) 1 0
+  bit-is zero p lt = absurd (omega arith)
+  bit-is (suc n) p lt =
+      rw (next n) (by-cases (ℕ-discrete p n) newest (λ e. older (f n) (omega (arith, e)) (bit-is n p (omega (arith, e)))))
+    where
+      here : (t : Bool) → (made n + cond t (2 ^ n) 0) / 2 ^ n % 2 ≡ cond t 1 0
+      here true = bit-new n (made n) (bits-below n)
+      here false = rw (add-zero (made n)) (bit-none n (made n) (bits-below n))
+
+      newest : p ≡ n → (made n + cond (f n) (2 ^ n) 0) / 2 ^ p % 2 ≡ cond (f p) 1 0
+      newest e = rw e (here (f n))
+
+      older : (t : Bool) → p < n → made n / 2 ^ p % 2 ≡ cond (f p) 1 0 → (made n + cond t (2 ^ n) 0) / 2 ^ p % 2 ≡ cond (f p) 1 0
+      older true below before = bit-kept n p (made n) below ∙ before
+      older false below before = rw (add-zero (made n)) before
+
 module _ (m : Rooms) (k : ℕ) where
   pub planes-below : (n : ℕ) → planesOff m k n < 2 ^ n
   unfolding planesOff
-  planes-below zero = omega arith
-  planes-below (suc n) = go (planeOff m (suc n) k) (planes-below n)
-    where
-      go : (t : Bool) → planesOff m k n < 2 ^ n → planesOff m k n + cond t (2 ^ n) 0 < 2 ^ suc n
-      go true lt = omega arith
-      go false lt = omega arith
+  planes-below = bits-below (λ p. planeOff m (suc p) k) (planesOff m k) refl (λ n. refl)
 
   -- bit p says whether plane p + 1 differs
   pub plane-bit : (n p : ℕ) → p < n → planesOff m k n / 2 ^ p % 2 ≡ cond (planeOff m (suc p) k) 1 0
   unfolding planesOff
-  plane-bit zero p lt = absurd (omega arith)
-  plane-bit (suc n) p lt = by-cases (ℕ-discrete p n) newest (λ e. older (planeOff m (suc n) k) (omega (arith, e)) (plane-bit n p (omega (arith, e))))
-    where
-      here : (t : Bool) → (planesOff m k n + cond t (2 ^ n) 0) / 2 ^ n % 2 ≡ cond t 1 0
-      here true = bit-new n (planesOff m k n) (planes-below n)
-      here false = rw (add-zero (planesOff m k n)) (bit-none n (planesOff m k n) (planes-below n))
-
-      newest : p ≡ n → (planesOff m k n + cond (planeOff m (suc n) k) (2 ^ n) 0) / 2 ^ p % 2 ≡ cond (planeOff m (suc p) k) 1 0
-      newest e = rw e (here (planeOff m (suc n) k))
-
-      older : (t : Bool) → p < n → planesOff m k n / 2 ^ p % 2 ≡ cond (planeOff m (suc p) k) 1 0
-          → (planesOff m k n + cond t (2 ^ n) 0) / 2 ^ p % 2 ≡ cond (planeOff m (suc p) k) 1 0
-      older true below before = bit-kept n p (planesOff m k n) below ∙ before
-      older false below before = rw (add-zero (planesOff m k n)) before
+  plane-bit = bit-is (λ p. planeOff m (suc p) k) (planesOff m k) refl (λ n. refl)

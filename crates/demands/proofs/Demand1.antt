@@ -10,6 +10,7 @@ use Rattle.objects.specs.Object.{placeNumber, headerCall, headerAfter, chosenBl
 use Rattle.objects.specs.Name.{nameNumber, namePlace, nameAfter, chosenNumber, placeWord, partOf}
 use Rattle.objects.specs.declared.Chosen.{Chosen}
 use Rattle.objects.specs.declared.Chosen.the-variants as chosen
+use Rattle.object_list.specs.List.{listTest, rowsAfter}
 use Rattle.room.specs.declared.Room as room
 use Rattle.room.specs.declared.Tested.{Tested}
 use Rattle.room.specs.declared.Tested.the-variants as tested
@@ -56,6 +57,10 @@ use Rattle.demands.specs.Demand1.{Refusing, Parts, Demand1}
 record-stays : (t : Tested) (lent : List ℕ) → Refusing (numberOf t) → recordAfter t lent ≡ lent
 record-stays (tested.Right r) lent f = absurd (f refl)
 record-stays (tested.Refused n) lent f = refl
+
+rows-stay : (s rows : List ℕ) (t : Tested) → Refusing (numberOf t) → rowsAfter s t rows ≡ rows
+rows-stay s rows (tested.Right r) f = absurd (f refl)
+rows-stay s rows (tested.Refused n) f = refl
 
 header-stays : (s lent : List ℕ) (p : Place) → Refusing (placeNumber p) → headerAfter s p lent ≡ lent
 header-stays s lent (place.At p) f = absurd (f refl)
@@ -136,6 +141,7 @@ demand1 =
       record-stays = λ s lent f. record-stays (recordTest s lent) lent f;
       header-stays = λ s lent k f. header-stays s lent (headerCall s lent k) f;
       name-empty = λ s k f. unfold nameNumber namePlace in name-empty s (chosenBlock nothing s k) f;
+      list-stays = λ s lent rows f. (record-stays (listTest s lent rows) lent f, rows-stay s rows (listTest s lent rows) f);
       load-stays = λ s b f. load-stays s b (play.testOf s b) f;
       call-stays = λ s b c f. call-stays s b c (play.callTest s b) f;
       object-parts = λ s session flags x y. object-parts (point.pointedAt s session flags x y);

@@ -33,6 +33,7 @@ pub mod RefusalCast
 pub mod Refusals
 pub mod Demand1
 pub mod HeaderReads
+pub mod Listing
 pub mod Request7
 pub mod Demand2
 pub mod Demand3

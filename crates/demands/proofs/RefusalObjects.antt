@@ -41,7 +41,7 @@ all-of-each p (f ∷ l) zero none e = both (p f) (allOf p l) e .0
 all-of-each p (f ∷ l) (suc k) none e = all-of-each p l k none (both (p f) (allOf p l) e .1)
 
 module _ (s : List ℕ) (right : objectsRight s ≡ true) where
-  object-has : (k : ℕ) → hasIn tag-CDHD 13 s (objectBlock s k) ≡ true
+  pub object-has : (k : ℕ) → hasIn tag-CDHD 13 s (objectBlock s k) ≡ true
   unfolding objectsRight eachHas objectBlock
   object-has k = go (eqb k 0)
     where

@@ -3,7 +3,7 @@ use mathlib.Core.Path.{_≡_, refl, ap, _∙_, subst}
 use mathlib.Core.Bool.{Bool, true, false, cond, _&&_, _||_}
 use mathlib.Core.List.{List}
 use mathlib.Core.Logic.{_⊎_, inl, inr, _↔_}
-use Prim.Native.Nat.{ℕ, _*_, _≤_, _<_}
+use Prim.Native.Nat.{ℕ, _*_, _/_, _≤_, _<_}
 use native.Mathlib.Omega.{arith}
 use lib.Dec.{ltb}
 use Rattle.block.specs.Tree.{wellFormed}
@@ -20,7 +20,7 @@ use Rattle.room.specs.declared.Tested.{Tested}
 use Rattle.room.specs.declared.Tested.the-variants.{Right, Refused}
 use Rattle.demands.specs.PictureRefusals.{AllPass, pictureOf, TableWrong, AtStrip, UnknownCode, BytesRunOut, PassesEnd}
 use Rattle.demands.specs.Refusals.{Blocks, inSizes, Sized, AtRoom}
-use Rattle.demands.proofs.RefusalTests.{below, one-holds, both-hold, one-fails, either-way, _then_}
+use Rattle.demands.proofs.RefusalTests.{below, one-holds, both-hold, one-fails, either-way, same, _then_}
 use Rattle.demands.proofs.RefusalPictures as picture
 
 module _ (s : List ℕ) where
@@ -60,7 +60,7 @@ module _ (s : List ℕ) where
       blocks-are p blocks ∙ ap sized room ∙ ap (λ (q : Bool). cond q (Right r) (Refused 3)) e
 
   -- and what the head's test comes to: one of them, or the room
-  abbrev HeadIs : Tested → Type 0
+  abbrev pub HeadIs : Tested → Type 0
   HeadIs (Right r) = Sized s r
   HeadIs (Refused n) =
       ((n ≡ 1) × (wellFormed s ≡ false))
@@ -86,7 +86,7 @@ module _ (s : List ℕ) where
   formed-is true e = needed-is e (neededIn s) refl
   formed-is false e = inl (refl, e)
 
-  head-is : HeadIs (headOf s)
+  pub head-is : HeadIs (headOf s)
   unfolding headOf
   head-is = formed-is (wellFormed s) refl
 
@@ -274,3 +274,7 @@ unfolding short
 short-flags size n flags r =
     one-holds (ltb n size || false) (ltb flags (r .objects))
     then either-way (one-holds (ltb n size) false then none-false then below n size) (below flags (r .objects))
+
+-- a row of 32 bytes for each object
+pub short-rows : (n rows : ℕ) (r : Room) → (short (withFlags 16 n (rows / 32)) r ≡ true) ↔ ((n < 16) ⊎ (rows < 32 * r .objects))
+short-rows n rows r = short-flags 16 n (rows / 32) r then either-way same (λ few. omega arith, λ few. omega arith)

@@ -1,7 +1,8 @@
 -- Document 01's table of refusals holds: each number is given exactly when.
+use Prim.Native.Nat.{_/_}
 use mathlib.Core.Path.{refl}
 use lib.ListN.{length}
-use Rattle.room.specs.Test.{fixedOnly}
+use Rattle.room.specs.Test.{fixedOnly, withFlags}
 use Rattle.demands.specs.Refusals.{Refusals}
 use Rattle.demands.specs.Numbers.{Numbers}
 use Rattle.demands.proofs.RefusalTree as tree
@@ -48,6 +49,7 @@ refusals =
       short-fixed = room.short-fixed;
       short-surfaces = room.short-surfaces;
       short-flags = room.short-flags;
+      short-rows = room.short-rows;
       four-hidden = other.hidden-four;
       four-stamp = other.stamp-four;
       four-cast = cast.cast-four;
@@ -94,6 +96,7 @@ refusals =
       eighteen = cast.cast-eighteen;
       test-of-load = λ s b. refl;
       test-of-record = λ s lent. refl;
+      test-of-list = λ s lent rows. refl;
       test-of-call = λ s b. refl;
       room-of-call = session.room-first;
       room-of-draw = session.draw-room;
@@ -110,6 +113,7 @@ pub numbers : Numbers
 numbers =
     record {
       of-record = λ s lent. room.number-few (fixedOnly 16 (length lent)) s;
+      of-list = λ s lent rows. room.number-few (withFlags 16 (length lent) (length rows / 32)) s;
       of-load = λ s b. room.number-few (session.lent s b) s;
       of-draw = session.draw-numbers;
       of-hide = session.hide-numbers;

@@ -14,6 +14,7 @@ use Rattle.room.specs.Test.{numberOf}
 use Rattle.objects.specs.Record.{recordTest, recordAfter}
 use Rattle.objects.specs.Object.{placeNumber, headerCall, headerAfter}
 use Rattle.objects.specs.Name.{nameNumber, namePlace, placeWord, nameOf}
+use Rattle.object_list.specs.List.{listTest, rowsAfter}
 use Rattle.scene.specs.declared.Call.{Call}
 use Rattle.play.specs.Bytes as play
 use Rattle.point.specs.Call as point
@@ -46,6 +47,9 @@ pub record Demand1 : Type 0 where
   pub header-stays : (s lent : List ℕ) (k : ℕ) → Refusing (placeNumber (headerCall s lent k)) → headerAfter s (headerCall s lent k) lent ≡ lent
   -- kg_name, kg_name_number: no place, and an empty part of the room
   pub name-empty : (s : List ℕ) (k : ℕ) → Refusing (nameNumber s k) → (placeWord (namePlace s k) ≡ 0) × (nameOf s k ≡ [])
+  -- kg_list: the lent record and the rows
+  pub list-stays : (s lent rows : List ℕ) → Refusing (numberOf (listTest s lent rows))
+      → (recordAfter (listTest s lent rows) lent ≡ lent) × (rowsAfter s (listTest s lent rows) rows ≡ rows)
   -- kg_load; kg_draw_last, kg_draw_at, kg_hide, kg_take_back: session, pixels and masks
   pub load-stays : (s : List ℕ) (b : play.Lent) → Refusing (numberOf (play.testOf s b)) → play.afterLoad s b ≡ b
   pub call-stays : (s : List ℕ) (b : play.Lent) (c : Call) → Refusing (play.numberOf s b c) → play.afterCall s b c ≡ b

@@ -1,6 +1,7 @@
 pub mod Written
 pub mod Demand1
 pub mod Behind
+pub mod Listing
 pub mod Request7
 pub mod Demand2
 pub mod Demand3

@@ -8,6 +8,7 @@ use Rattle.room.specs.Test.{numberOf}
 use Rattle.objects.specs.Record.{recordTest}
 use Rattle.objects.specs.Object.{placeNumber, headerCall}
 use Rattle.objects.specs.Name.{nameNumber}
+use Rattle.object_list.specs.List.{listTest}
 use Rattle.scene.specs.declared.Call.the-variants.{Make, TakeBack}
 use Rattle.scene.specs.declared.Place.{Place}
 use Rattle.scene.specs.declared.Step.the-variants.{Draw, Hide}
@@ -40,8 +41,9 @@ abbrev pub UpToOr : (last other n : ℕ) → Type 0
 UpToOr last other n = (n ≤ last) ⊎ (n ≡ other)
 
 pub record Numbers : Type 0 where
-  -- kg_record, kg_load: 1 to 8
+  -- kg_record, kg_list, kg_load: 1 to 8
   pub of-record : (s lent : List ℕ) → numberOf (recordTest s lent) ≤ 8
+  pub of-list : (s lent rows : List ℕ) → numberOf (listTest s lent rows) ≤ 8
   pub of-load : (s : List ℕ) (b : play.Lent) → numberOf (play.testOf s b) ≤ 8
   -- kg_draw_last, kg_draw_at: 1 to 12; kg_hide: 1 to 11; kg_take_back: 1 to 9 and 13
   pub of-draw : (s : List ℕ) (b : play.Lent) (o st : ℕ) (p : Place) → play.numberOf s b (Make (Draw o st p)) ≤ 12

@@ -27,6 +27,7 @@ use Rattle.objects.specs.Record.{recordTest}
 use Rattle.objects.specs.Object.{objectBlock, placeNumber, headerCall}
 use Rattle.objects.specs.Name.{nameNumber}
 use Rattle.image.specs.Image.{imageWidth, imageHeight, stateBlock, drawable}
+use Rattle.object_list.specs.List.{listTest}
 use Rattle.scene.specs.declared.Call.{Call}
 use Rattle.scene.specs.declared.Call.the-variants.{Make, TakeBack}
 use Rattle.scene.specs.declared.Entry.{Entry}
@@ -220,6 +221,8 @@ pub record Refusals : Type 0 where
       → (short (withSurfaces size n pixels masks) r ≡ true)
       ↔ ((n < size) ⊎ (pixels < r .width * r .height) ⊎ (masks < strips r * (r .planes * r .height)))
   pub short-flags : (size n flags : ℕ) (r : Room) → (short (withFlags size n flags) r ≡ true) ↔ ((n < size) ⊎ (flags < r .objects))
+  -- kg_list: a record of 16 bytes, and rows of 32 for each object
+  pub short-rows : (n rows : ℕ) (r : Room) → (short (withFlags 16 n (rows / 32)) r ≡ true) ↔ ((n < 16) ⊎ (rows < 32 * r .objects))
   pub four-hidden : (masks : List ℕ) (w h n clip x y : ℕ)
       → (actor.number (hiddenOf masks w h n clip x y) ≡ 4) ↔ ((sizesFit w h n ≡ true) × (length masks < maskBytes w h n))
   pub four-stamp : (frame masks picture w h n width height : ℕ)
@@ -316,11 +319,12 @@ pub record Refusals : Type 0 where
       ↔ AtBoth a b (λ ra rb. (ra .width ≡ rb .width → ⊥) ⊎ (ra .height ≡ rb .height → ⊥))
   -- 18, change request 7: "for more than 32 records"
   pub eighteen : (list : List Actor) (frame masks pictures : List ℕ) (w h n : ℕ) → (numberIn list frame masks pictures w h n ≡ 18) ↔ (32 < length list)
-  -- "Every call that takes room bytes tests the whole room as the load does": the load's test and the record's, which give their numbers, and that of a
-  -- draw, a hide or a take-back
+  -- "Every call that takes room bytes tests the whole room as the load does": the load's test, the record's and the listing's, which give their numbers,
+  -- and that of a draw, a hide or a take-back
   pub test-of-load : (s : List ℕ) (b : play.Lent)
       → play.testOf s b ≡ roomTest (withSurfaces sessionSize (length (b .session)) (length (b .pixels)) (length (b .masks))) s
   pub test-of-record : (s lent : List ℕ) → recordTest s lent ≡ roomTest (fixedOnly 16 (length lent)) s
+  pub test-of-list : (s lent rows : List ℕ) → listTest s lent rows ≡ roomTest (withFlags 16 (length lent) (length rows / 32)) s
   pub test-of-call : (s : List ℕ) (b : play.Lent) → play.callTest s b ≡ play.testOf s b
   -- "Order: 1, 2, 3, 4 for the room", then the pictures, and only then 9 to 14 and an image: a call gives each of the room's numbers where its test does.
   -- A draw gives 2 and 5 to 8 for its image too, as above

@@ -38,43 +38,58 @@ drop-none (x ∷ l) zero h le = absurd (let e : _≡_ {A = ℕ} 0 1 = cc in omeg
 drop-none (x ∷ l) (suc n) h le = ap suc (drop-none l n h (omega arith))
 
 -- ---- the objects
+-- a walk over the objects' blocks: the first n are passed, and the others stand from `at` on
+pub record Walked (s : List ℕ) (at n : ℕ) : Type 0 where
+  pub few : n ≤ objectCount s
+  pub rest : tagged tag-OBCD s at (length s) ≡ drop n (tagged tag-OBCD s 8 (length s))
+
+module _ (s : List ℕ) where
+  pub walked-none : Walked s 8 0
+  walked-none = record { few = omega arith; rest = refl }
+
+  module _ (at n b z : ℕ) (w : Walked s at n) (found : At b z ≡ findTag tag-OBCD s at (length s)) where
+    first : (At b z ≡ nthTag tag-OBCD s 8 (length s) n) × (tagged tag-OBCD s z (length s) ≡ drop (suc n) (tagged tag-OBCD s 8 (length s))) × (n < objectCount s)
+    first = drop-first (tagged tag-OBCD s 8 (length s)) n (At b z) (tagged tag-OBCD s z (length s))
+        (sym (walk-found tag-OBCD s (length s) at b z found) ∙ w .rest)
+
+    -- the next one is object n + 1
+    pub walked-one : n < objectCount s
+    walked-one = first .2
+
+    pub walked-here : At b z ≡ objectBlock s (n + 1)
+    walked-here = first .0 ∙ sym (object-nth s n)
+
+    pub walked-more : Walked s z (n + 1)
+    walked-more = record { few = omega (arith, walked-one); rest = rw add-one (first .1) }
+
+  pub walked-all : (at n : ℕ) → Walked s at n → Missing ≡ findTag tag-OBCD s at (length s) → n ≡ objectCount s
+  walked-all at n w none = drop-none (tagged tag-OBCD s 8 (length s)) n (sym (walk-none tag-OBCD s (length s) at none) ∙ w .rest) (w .few)
+
 module _ (s : List ℕ) (row : Found → List ℕ) (t₀ : List ℕ) where
-  -- the first n objects' rows are put, and the others' blocks stand from `at` on
+  -- the rows of the objects that are passed are put
   pub record Listing (t : List ℕ) (at n : ℕ) : Type 0 where
     pub same : length t ≡ length t₀
-    pub few : n ≤ objectCount s
-    pub rest : tagged tag-OBCD s at (length s) ≡ drop n (tagged tag-OBCD s 8 (length s))
+    pub walked : Walked s at n
     pub rows : (o : ℕ) → 1 ≤ o → o ≤ n → (c : ℕ) → c < 8 → getD t (8 * o + c) 0 ≡ getD (row (objectBlock s o)) c 0
 
   pub list-none : Listing t₀ 8 0
-  list-none = record { same = refl; few = omega arith; rest = refl; rows = λ o one h. absurd (omega arith) }
+  list-none = record { same = refl; walked = walked-none s; rows = λ o one h. absurd (omega arith) }
 
-  module _ (t : List ℕ) (at n b z : ℕ) (l : Listing t at n) (found : At b z ≡ findTag tag-OBCD s at (length s)) where
-    first : (At b z ≡ nthTag tag-OBCD s 8 (length s) n) × (tagged tag-OBCD s z (length s) ≡ drop (suc n) (tagged tag-OBCD s 8 (length s))) × (n < objectCount s)
-    first = drop-first (tagged tag-OBCD s 8 (length s)) n (At b z) (tagged tag-OBCD s z (length s))
-        (sym (walk-found tag-OBCD s (length s) at b z found) ∙ l .rest)
-
-    pub list-one : n < objectCount s
-    list-one = first .2
-
-    block-here : At b z ≡ objectBlock s (n + 1)
-    block-here = first .0 ∙ sym (object-nth s n)
-
-    pub list-more : (t' : List ℕ) → RowPut t t' (n + 1) (row (At b z)) → Listing t' z (n + 1)
-    list-more t' put =
-        record {
-          same = put .same ∙ l .same;
-          few = omega (arith, list-one);
-          rest = rw add-one (first .1);
-          rows = λ o one h. by-cases (ℕ-discrete o (n + 1))
-              (λ e. subst⁻¹ (λ (q : ℕ). (c : ℕ) → c < 8 → getD t' (8 * q + c) 0 ≡ getD (row (objectBlock s q)) c 0) e
-              (λ c k. put .new c k ∙ ap (λ (f : Found). getD (row f) c 0) block-here))
-              (λ ne c k. put .old o c ne k ∙ l .rows o one (omega arith) c k);
-        }
+  pub list-more : (t : List ℕ) (at n b z : ℕ) → Listing t at n → At b z ≡ findTag tag-OBCD s at (length s) → (t' : List ℕ) → RowPut t t' (n + 1) (row (At b z))
+      → Listing t' z (n + 1)
+  list-more t at n b z l found t' put =
+      record {
+        same = put .same ∙ l .same;
+        walked = walked-more s at n b z (l .walked) found;
+        rows = λ o one h. by-cases (ℕ-discrete o (n + 1))
+            (λ e. subst⁻¹ (λ (q : ℕ). (c : ℕ) → c < 8 → getD t' (8 * q + c) 0 ≡ getD (row (objectBlock s q)) c 0) e
+            (λ c k. put .new c k ∙ ap (λ (f : Found). getD (row f) c 0) (walked-here s at n b z (l .walked) found)))
+            (λ ne c k. put .old o c ne k ∙ l .rows o one (omega arith) c k);
+      }
 
   pub list-all : (t : List ℕ) (at n : ℕ) → Listing t at n → Missing ≡ findTag tag-OBCD s at (length s) → (n ≡ objectCount s) × Filled s row t₀ t
   list-all t at n l none =
-      let all : n ≡ objectCount s = drop-none (tagged tag-OBCD s 8 (length s)) n (sym (walk-none tag-OBCD s (length s) at none) ∙ l .rest) (l .few) in
+      let all = walked-all s at n (l .walked) none in
       (all, record { same = l .same; new = λ o one h. l .rows o one (omega arith) })
 
 -- ---- the images

@@ -1,9 +1,10 @@
-// A room's record, its load, and its objects' headers and names.
+// A room's record, its load, its objects' headers and names, and its listing.
 ghost use mathlib.Core.Path.{_≡_};
 ghost use Rattle.room.specs.Test.{numberOf};
 ghost use Rattle.objects.specs.Record.{recordTest, recordAfter};
 ghost use Rattle.objects.specs.Object.{placeNumber, headerCall, headerAfter};
 ghost use Rattle.objects.specs.Name.{namePlace, placeWord, nameNumber};
+ghost use Rattle.object_list.specs.List.{listTest, rowsAfter};
 ghost use Rattle.play.specs.Bytes.{lent, testOf, afterLoad};
 
 // The room's record.
@@ -53,4 +54,15 @@ pub extern "C" fn kg_name_number(room: &[u8], object: u32) -> u32
     ensures { λ n. ⌜ n ≡ nameNumber (now (room .entry)) object ⌝ }
 {
     objects::name::name_number(room, object)
+}
+
+// The listing of a room: its record into `out`, and a row of 32 bytes for each object.
+#[no_mangle]
+pub extern "C" fn kg_list(room: &[u8], out: &mut [u8], rows: &mut [u8]) -> u32
+    ensures { λ n. ⌜ n ≡ numberOf (listTest (now (room .entry)) (now (out .entry)) (now (rows .entry))) ⌝ }
+    ensures { λ _. ⌜ now (out .exit) ≡ recordAfter (listTest (now (room .entry)) (now (out .entry)) (now (rows .entry))) (now (out .entry)) ⌝ }
+    ensures { λ _. ⌜ now (rows .exit)
+        ≡ rowsAfter (now (room .entry)) (listTest (now (room .entry)) (now (out .entry)) (now (rows .entry))) (now (rows .entry)) ⌝ }
+{
+    object_list::list(room, out, rows)
 }

@@ -9,15 +9,10 @@ use lib.ListN.{getD, length, take, drop}
 use borrow.Author.Tests.{ne-eqb, eq-eqb}
 use Rattle.block.specs.Tag.{tag-OBNA}
 use Rattle.block.specs.Tree.{needTag}
-use Rattle.room.specs.Test.{nothing}
-use Rattle.objects.specs.Object.{chosenBlock}
-use Rattle.objects.specs.Name.{nulFrom, beforeNul, nameIn, nameAfter, namePlace, partAt, partOf, placeWord}
+use Rattle.objects.specs.Name.{nulFrom, beforeNul, nameIn, partAt, partOf, placeWord}
 use Rattle.block.specs.declared.Found.{Found}
 use Rattle.block.specs.declared.Found.the-variants.{At, Missing}
-use Rattle.objects.specs.declared.Chosen.{Chosen}
-use Rattle.objects.specs.declared.Chosen.the-variants.{Block, Refused}
 use Rattle.block.proofs.Laws.{Held, need-in}
-use Rattle.objects.proofs.ObjectLaws.{ChosenIn, chosen-in}
 
 module _ (s : List ℕ) where
   pub nul-end : (n p : ℕ) → n ≡ 0 → p ≡ nulFrom n s p
@@ -45,25 +40,19 @@ module _ (s : List ℕ) where
       go true h i = rw (← nul-suc (suc n) n p true refl h) (omega arith)
       go false h i = rw (← nul-suc (suc n) n p false refl h) (omega arith)
 
-  -- a name that is found lies in a room that is not over the size
+  -- a name that is found lies in the room
   abbrev Named : Found → Type 0
-  Named (At a z) = (a ≤ z) × (z ≤ length s) × (length s ≤ 1048576)
+  Named (At a z) = (a ≤ z) × (z ≤ length s)
   Named Missing = Unit {0}
 
-  named-nul : (a e : ℕ) (f : Found) → e ≤ length s → length s ≤ 1048576 → Held 0 a e f → Named (beforeNul s f)
+  named-nul : (a e : ℕ) (f : Found) → e ≤ length s → Held 0 a e f → Named (beforeNul s f)
   unfolding beforeNul
-  named-nul a e (At p z) l small i = omega (arith, nul-in (z - p) p)
-  named-nul a e Missing l small i = tt
+  named-nul a e (At p z) l i = omega (arith, nul-in (z - p) p)
+  named-nul a e Missing l i = tt
 
-  named-after : (f : Chosen) → ChosenIn s nothing f → Named (nameAfter s f)
+  pub name-at : (b z a e : ℕ) → z ≤ length s → At a e ≡ nameIn s b z → (a ≤ e) × (e ≤ length s)
   unfolding nameIn
-  named-after (Block b z) i =
-      named-nul (b + 8) z (needTag tag-OBNA 0 s (b + 8) z) (i .2) (i .3 .1 .sound .small) (need-in tag-OBNA 0 s (b + 8) z)
-  named-after (Refused n) i = tt
-
-  pub name-at : (k a z : ℕ) → At a z ≡ namePlace s k → (a ≤ z) × (z ≤ length s) × (length s ≤ 1048576)
-  unfolding namePlace
-  name-at k a z h = subst⁻¹ Named h (named-after (chosenBlock nothing s k) (chosen-in s nothing k))
+  name-at b z a e l h = subst⁻¹ Named h (named-nul (b + 8) z (needTag tag-OBNA 0 s (b + 8) z) l (need-in tag-OBNA 0 s (b + 8) z))
 
   -- the part, as the place tells it
   pub part-bytes : (f : Found) → take (partAt f .count) (drop (partAt f .start) s) ≡ partOf s f

@@ -40,27 +40,28 @@ fn name_in(s: &[u8], b: usize, z: usize) -> Found
     }
 }
 
-// Where the name of object `k` stands, counted from 1.
-fn name_place(s: &[u8], k: usize) -> Found
-    ensures { λ r. ⌜ r ≡ namePlace (now (s .entry)) k ⌝ }
+// The part of the room that is the name of the object in the OBCD [b, z); empty where there is none.
+pub fn part_in(s: &[u8], b: usize, z: usize) -> Part
+    requires { ⌜ (b + 8 ≤ z) × (z ≤ length (now s)) ⌝ }
+    ensures { λ r. ⌜ (r ≡ partAt (nameIn (now (s .entry)) b z)) × (r .start + r .count ≤ length (now (s .entry))) ⌝ }
 {
-    match chosen_block(s, nothing_lent(), k) {
-        Chosen::Block(b, z) => name_in(s, b, z),
-        Chosen::Refused(_) => Found::Missing,
+    match name_in(s, b, z) {
+        Found::At(a, e) => Part {
+            start: a,
+            count: e - a,
+        },
+        Found::Missing => Part { start: 0, count: 0 },
     }
 }
 
-// The part of the room that is the name of object `object`; empty where there is none or the call is refused.
+// The part that is the name of object `object`, counted from 1; empty where there is none or the call is refused.
 fn name_part(s: &[u8], object: u32) -> Part
     ensures { λ r. ⌜ r ≡ partAt (namePlace (now (s .entry)) object) ⌝ }
     ensures { λ r. ⌜ (r .start + r .count ≤ length (now (s .entry))) × (r .start + r .count ≤ 1048576) ⌝ }
 {
-    match name_place(s, object as usize) {
-        Found::At(a, z) => Part {
-            start: a,
-            count: z - a,
-        },
-        Found::Missing => Part { start: 0, count: 0 },
+    match chosen_block(s, nothing_lent(), object as usize) {
+        Chosen::Block(b, z) => part_in(s, b, z),
+        Chosen::Refused(_) => Part { start: 0, count: 0 },
     }
 }
 

@@ -93,7 +93,8 @@ pub fn header_place(s: &[u8], lent: Lent, k: usize) -> Place
     }
 }
 
-fn header_bytes(s: &[u8], p: usize) -> [u8; 16]
+// The 16 bytes of the header whose CDHD payload is at `p`.
+pub fn header_bytes(s: &[u8], p: usize) -> [u8; 16]
     requires { ⌜ p + 13 ≤ length (now s) ⌝ }
     ensures { λ r. ⌜ r ≡ headerBytes (now (s .entry)) p ⌝ }
 {

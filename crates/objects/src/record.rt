@@ -34,7 +34,8 @@ fn high(n: usize) -> u8
     (n / 256 % 256) as u8
 }
 
-fn record_bytes(r: Room) -> [u8; 16]
+// The 16 bytes of the record.
+pub fn record_bytes(r: Room) -> [u8; 16]
     ensures { λ b. ⌜ b ≡ recordBytes r ⌝ }
 {
     let a = low(r.width);

@@ -1,13 +1,11 @@
 -- The answer of the point question, from the session's list as the tables settle it.
 use Prim.Native.Nat.{ℕ, zero, suc, _≤_, _<_}
 use mathlib.Core.Path.{_≡_, refl, sym, ap, _∙_}
-use mathlib.Core.Bool.{Bool, true, false, _||_}
+use mathlib.Core.Bool.{true, false}
 use mathlib.Core.List.{List}
-use mathlib.Core.Bool.{true≢false}
-use borrow.Author.Tests.{lt-ltb, le-ltb, ltb-false, eq-eqb, ne-eqb}
-use lib.Dec.{ltb, eqb}
+use borrow.Author.Tests.{lt-ltb, le-ltb, eq-eqb, ne-eqb}
+use lib.Dec.{eqb}
 use lib.ListN.{getD}
-use Rattle.room.specs.Test.{short, withFlags}
 use Rattle.room.specs.declared.Room as room
 use Rattle.scene.specs.Painting.{Room}
 use Rattle.scene.specs.Steps.{Scene}
@@ -28,16 +26,6 @@ use Rattle.point.specs.Point.{objectAt}
 use Rattle.point.specs.Call.{found, asked}
 use Rattle.point.specs.declared.Pointed.{Pointed}
 use Rattle.point.specs.declared.Pointed.the-variants.{Object, Refused}
-
--- a session and flags that are not too short
-pub flags-long : (size n flags : ℕ) (r : room.Room) → short (withFlags size n flags) r ≡ false → (size ≤ n) × (r .objects ≤ flags)
-unfolding short
-flags-long size n flags r h = go (ltb n size) (ltb flags (r .objects)) refl refl h
-  where
-    go : (p q : Bool) → ltb n size ≡ p → ltb flags (r .objects) ≡ q → (p || false || q) ≡ false → (size ≤ n) × (r .objects ≤ flags)
-    go true q a b f = absurd (true≢false f)
-    go false true a b f = absurd (true≢false f)
-    go false false a b f = (ltb-false n size a, ltb-false flags (r .objects) b)
 
 pub found-some : (o : ℕ) → (o ≡ 0 → ⊥) → Object o ≡ found o
 found-some zero f = absurd (f refl)

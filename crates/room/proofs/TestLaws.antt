@@ -8,7 +8,7 @@ use lib.Dec.{ltb}
 use Rattle.table.specs.declared.Test.{Test}
 use Rattle.table.specs.declared.Test.the-variants as test
 use Rattle.room.specs.Head.{headOf, Sound}
-use Rattle.room.specs.Test.{picturesTest, short, orRefused, afterHead, roomTest, fixedOnly, withSurfaces, strips}
+use Rattle.room.specs.Test.{picturesTest, short, orRefused, afterHead, roomTest, fixedOnly, withSurfaces, withFlags, strips}
 use Rattle.room.specs.declared.Lent.{Lent}
 use Rattle.room.specs.declared.Room.{Room}
 use Rattle.room.specs.declared.Tested.{Tested}
@@ -64,3 +64,13 @@ surfaces-long size n pixels masks r h = go (ltb n size) (ltb pixels (r .width * 
     go false true t a b c f = absurd (true≢false f)
     go false false true a b c f = absurd (true≢false f)
     go false false false a b c f = (ltb-false n size a, ltb-false pixels (r .width * r .height) b, ltb-false masks (strips r * (r .planes * r .height)) c)
+
+-- a session and flags that are not too short
+pub flags-long : (size n flags : ℕ) (r : Room) → short (withFlags size n flags) r ≡ false → (size ≤ n) × (r .objects ≤ flags)
+unfolding short
+flags-long size n flags r h = go (ltb n size) (ltb flags (r .objects)) refl refl h
+  where
+    go : (p q : Bool) → ltb n size ≡ p → ltb flags (r .objects) ≡ q → (p || false || q) ≡ false → (size ≤ n) × (r .objects ≤ flags)
+    go true q a b f = absurd (true≢false f)
+    go false true a b f = absurd (true≢false f)
+    go false false a b f = (ltb-false n size a, ltb-false flags (r .objects) b)

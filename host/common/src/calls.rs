@@ -71,6 +71,7 @@ extern "C" {
         x: u32,
         y: u32,
     ) -> u64;
+    pub fn kg_list(room: *const u8, room_size: usize, record: *mut u8, record_size: usize, rows: *mut u8, rows_size: usize) -> u32;
     pub fn kg_header(room: *const u8, room_size: usize, header: *mut u8, header_size: usize, object: u32) -> u32;
     pub fn kg_name(room: *const u8, room_size: usize, object: u32) -> u64;
     pub fn kg_name_number(room: *const u8, room_size: usize, object: u32) -> u32;

@@ -9,6 +9,7 @@ pub mod costume;
 pub mod fault;
 pub mod image;
 pub mod inspect;
+pub mod listing;
 pub mod load;
 pub mod mask;
 pub mod object;
@@ -72,6 +73,8 @@ mod cast_rows;
 mod compare_rows;
 #[cfg(test)]
 mod limb_rows;
+#[cfg(test)]
+mod list_rows;
 #[cfg(test)]
 mod place_rows;
 #[cfg(test)]

@@ -6,14 +6,20 @@ use crate::room::{judge, Room};
 pub const RECORD: usize = 16;
 pub const SESSION: usize = 450;
 
-/// The room's record: W, H, N, objects as u16, the transparent index ("The room's record carries it", change request 9), zeros.
-pub fn try_record(room: &[u8], record: &mut [u8]) -> Result<(), Fault> {
-    let room = judge(room, |_| record.len() >= RECORD)?.room;
-    record[..RECORD].fill(0);
+/// The record's bytes: W, H, N, objects as u16, the transparent index ("The room's record carries it", change request 9), zeros.
+pub fn record_of(room: &Room) -> [u8; RECORD] {
+    let mut record = [0; RECORD];
     for (i, number) in [room.w, room.h, room.n, room.objects.len()].into_iter().enumerate() {
         record[2 * i..2 * i + 2].copy_from_slice(&(number as u16).to_le_bytes());
     }
     record[8] = room.clear;
+    record
+}
+
+/// The room's record.
+pub fn try_record(room: &[u8], record: &mut [u8]) -> Result<(), Fault> {
+    let painted = judge(room, |_| record.len() >= RECORD)?;
+    record[..RECORD].copy_from_slice(&record_of(&painted.room));
     Ok(())
 }
 

@@ -12,13 +12,18 @@ fn object_at(room: &Room, object: u32) -> Result<Block, u32> {
 }
 
 /// CDHD's 13 bytes, then zeros.
+pub fn header_of(room: &[u8], obcd: Block) -> [u8; HEADER] {
+    let (cdhd, mut header) = (first(room, obcd, b"CDHD").expect("a tested room"), [0; HEADER]);
+    header[..13].copy_from_slice(&cdhd.payload(room)[..13]);
+    header
+}
+
+/// An object's header.
 pub fn header(room: &[u8], header: &mut [u8], object: u32) -> u32 {
     match test(room, |_| header.len() >= HEADER).and_then(|painted| object_at(&painted.room, object)) {
         Err(number) => number,
         Ok(obcd) => {
-            let cdhd = first(room, obcd, b"CDHD").expect("a tested room");
-            header[..13].copy_from_slice(&cdhd.payload(room)[..13]);
-            header[13..HEADER].fill(0);
+            header[..HEADER].copy_from_slice(&header_of(room, obcd));
             0
         }
     }

@@ -4,7 +4,7 @@ use crate::comparison::{Comparison, CAST};
 use crate::place_scenes;
 use common::calls::*;
 use reference::cast::{self as casts, Record};
-use reference::{actor, compare as compares, costume, load as loads, object, session as sessions, write};
+use reference::{actor, compare as compares, costume, listing, load as loads, object, session as sessions, write};
 
 /// A number alone, and a number with a value (docs/LAYOUTS.md, "Answers of two parts").
 fn number(number: u32) -> (u32, u64) {
@@ -113,6 +113,18 @@ pub fn object_at(b: &mut Comparison, room: &[u8], session: &[u8], flags: &[u8], 
     let (number, answer, _) =
         b.case("object_at", &numbers, &buffers, library, |_| word(reference::point::object_at(room, session, flags, x, y)));
     (number, (answer >> 32) as usize)
+}
+
+/// The listing: its number, and record and rows afterwards.
+pub fn list(b: &mut Comparison, room: &[u8], record: &[u8], rows: &[u8]) -> (u32, [Vec<u8>; 2]) {
+    let library = |p: &[*mut u8]| unsafe { kg_list(p[0], room.len(), p[1], record.len(), p[2], rows.len()) as u64 };
+    let buffers = [("room", room), ("record", record), ("rows", rows)];
+    let (answer, _, after) = b.case("list", &[], &buffers, library, |after| {
+        let [_, record, rows] = after else { unreachable!() };
+        number(listing::list(room, record, rows))
+    });
+    let [_, record, rows] = <[Vec<u8>; 3]>::try_from(after).expect("room, record, rows");
+    (answer, [record, rows])
 }
 
 pub fn header(b: &mut Comparison, room: &[u8], header: &[u8], which: u32) -> u32 {

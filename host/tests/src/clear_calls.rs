@@ -1,7 +1,7 @@
 //! Every call that takes a room, on the small room of clear_rooms.rs: what it is lent, what it answers, and what it must leave.
 
 use crate::calls::{self, Turn};
-use crate::clear_rooms::{drawn, ground_room, loaded, recorded, H, OBJECTS, W};
+use crate::clear_rooms::{drawn, ground_room, listed, loaded, recorded, H, OBJECTS, W};
 use crate::comparison::Comparison;
 
 /// A call, the comparison with the room in either place.
@@ -14,6 +14,7 @@ pub enum Call {
     Hide,
     TakeBack,
     ObjectAt,
+    List,
     Header,
     /// kg_name and kg_name_number.
     Name,
@@ -21,7 +22,7 @@ pub enum Call {
     CompareB,
 }
 
-pub const CALLS: [Call; 11] = [
+pub const CALLS: [Call; 12] = [
     Call::Record,
     Call::Load,
     Call::DrawLast,
@@ -29,6 +30,7 @@ pub const CALLS: [Call; 11] = [
     Call::Hide,
     Call::TakeBack,
     Call::ObjectAt,
+    Call::List,
     Call::Header,
     Call::Name,
     Call::CompareA,
@@ -45,6 +47,7 @@ impl Call {
             Call::Hide => "hide",
             Call::TakeBack => "take_back",
             Call::ObjectAt => "object_at",
+            Call::List => "list",
             Call::Header => "header",
             Call::Name => "name_number",
             Call::CompareA | Call::CompareB => "compare",
@@ -64,6 +67,7 @@ pub struct Lent {
     pub masks: Vec<u8>,
     pub record: Vec<u8>,
     pub header: Vec<u8>,
+    pub rows: Vec<u8>,
     pub flags: Vec<u8>,
     pub list: Vec<u8>,
     /// The other room of a comparison.
@@ -91,6 +95,7 @@ impl Lent {
             masks: if undo { vec![78; masks.len()] } else { masks },
             record: vec![79; 16],
             header: vec![80; 16],
+            rows: vec![82; 32 * OBJECTS],
             flags: vec![0; OBJECTS],
             list: vec![81; 8],
             other: ground_room().write(),
@@ -122,11 +127,22 @@ impl Lent {
                 let (number, found) = calls::object_at(b, room, &self.session, &self.flags, self.x, 0);
                 (number, vec![found as u8])
             }
+            Call::List => self.list(b, room),
             Call::Header => (calls::header(b, room, &self.header, object), vec![]),
             Call::Name => (calls::name(b, room, object), vec![]),
             Call::CompareA => self.compare(b, room, &self.other),
             Call::CompareB => self.compare(b, &self.other, room),
         }
+    }
+
+    /// The listing's number, its record, and its rows with the names themselves in place of where they stand.
+    fn list(&self, b: &mut Comparison, room: &[u8]) -> (u32, Vec<u8>) {
+        let (number, [record, rows]) = calls::list(b, room, &self.record, &self.rows);
+        let named = |row: &[u8]| {
+            let [start, length] = [16, 20].map(|at| u32::from_le_bytes([row[at], row[at + 1], row[at + 2], row[at + 3]]) as usize);
+            [&row[..16], room.get(start..).and_then(|rest| rest.get(..length)).unwrap_or(b"no name of the room"), &row[24..]].concat()
+        };
+        (number, record.into_iter().chain(rows.chunks_exact(32).flat_map(named)).collect())
     }
 
     fn compare(&self, b: &mut Comparison, one: &[u8], other: &[u8]) -> (u32, Vec<u8>) {
@@ -138,6 +154,7 @@ impl Lent {
     pub fn left(&self, call: Call, clear: u8) -> Vec<u8> {
         match call {
             Call::Record => recorded(clear),
+            Call::List => [recorded(clear), listed()].concat(),
             Call::Load => loaded().concat(),
             Call::DrawLast => drawn(clear, 0).concat(),
             Call::DrawAt => drawn(clear, 1).concat(),

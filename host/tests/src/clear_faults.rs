@@ -18,11 +18,13 @@ pub enum Buffer {
     Masks,
     Flags,
     Header,
+    Rows,
     /// The list of a comparison, of no byte where two strips differ.
     List,
 }
 
-const BUFFERS: [Buffer; 7] = [Buffer::Record, Buffer::Session, Buffer::Pixels, Buffer::Masks, Buffer::Flags, Buffer::Header, Buffer::List];
+const BUFFERS: [Buffer; 8] =
+    [Buffer::Record, Buffer::Session, Buffer::Pixels, Buffer::Masks, Buffer::Flags, Buffer::Header, Buffer::List, Buffer::Rows];
 
 #[derive(Clone, Copy, Debug, PartialEq, Eq, PartialOrd, Ord)]
 pub enum Fault {
@@ -126,7 +128,8 @@ impl Fault {
     pub fn calls(self) -> Vec<Call> {
         let turns_and = |more: &[Call]| [&TURNS, more].concat();
         match self {
-            Fault::Short(Buffer::Record) => vec![Call::Record],
+            Fault::Short(Buffer::Record) => vec![Call::Record, Call::List],
+            Fault::Short(Buffer::Rows) => vec![Call::List],
             Fault::Short(Buffer::Session) => turns_and(&[Call::Load, Call::ObjectAt]),
             Fault::Short(Buffer::Pixels | Buffer::Masks) => turns_and(&[Call::Load]),
             Fault::Short(Buffer::Flags) | Fault::Outside => vec![Call::ObjectAt],
@@ -237,6 +240,7 @@ impl Fault {
             Fault::Short(Buffer::Masks) => drop(lent.masks.pop()),
             Fault::Short(Buffer::Flags) => drop(lent.flags.pop()),
             Fault::Short(Buffer::Header) => drop(lent.header.pop()),
+            Fault::Short(Buffer::Rows) => drop(lent.rows.pop()),
             Fault::Short(Buffer::List) => (lent.list, lent.other) = (vec![], small_room(W, 3).write()),
             Fault::Session => lent.session[0] = 65,
             Fault::History => {

@@ -35,8 +35,11 @@ fn coloured() -> Vec<u8> {
 fn object(id: usize) -> [Node; 2] {
     let state = container(b"IM01", vec![strips(b"SMAP", 4, 1, vec![coloured()]), strips(b"ZP01", 2, 1, vec![vec![1, BITS]])]);
     let imhd = leaf(b"IMHD", u16s(&[id, 1, 0, 0, 0, 0, 8, 1]));
-    let cdhd = [u16s(&[id]), vec![0, 0, 1, 1], vec![0; 7]].concat();
-    [container(b"OBIM", vec![imhd, state]), container(b"OBCD", vec![leaf(b"CDHD", cdhd), leaf(b"OBNA", b"key\0".to_vec())])]
+    [container(b"OBIM", vec![imhd, state]), container(b"OBCD", vec![leaf(b"CDHD", cdhd(id)), leaf(b"OBNA", b"key\0".to_vec())])]
+}
+
+fn cdhd(id: usize) -> Vec<u8> {
+    [u16s(&[id]), vec![0, 0, 1, 1], vec![0; 7]].concat()
 }
 
 /// The room, its background under an opaque code. `colour` is the background's.
@@ -74,4 +77,9 @@ pub fn drawn(clear: u8, a: usize) -> [Vec<u8>; 2] {
 /// The record.
 pub fn recorded(clear: u8) -> Vec<u8> {
     [u16s(&[W, H, 1, OBJECTS]), vec![clear], vec![0; 7]].concat()
+}
+
+/// The rows of the listing, the names themselves in place of where they stand: of each object header, name and state 1.
+pub fn listed() -> Vec<u8> {
+    [7, 8].into_iter().flat_map(|id| [cdhd(id), vec![0; 3], b"key".to_vec(), vec![1, 0], vec![0; 6]].concat()).collect()
 }

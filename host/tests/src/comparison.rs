@@ -5,6 +5,7 @@ use crate::clear_count::{self, Case};
 use crate::end_count::EndCount;
 use crate::lent::Slot;
 use crate::limbs::{self, Kind, Question};
+use crate::list_count;
 use crate::pair_count::PairCount;
 use crate::place_count;
 use crate::planned::Count;
@@ -13,7 +14,7 @@ use crate::shapes::{shapes, Shape};
 use std::collections::BTreeMap;
 use std::sync::atomic::{AtomicU64, AtomicUsize, Ordering::Relaxed};
 
-pub const CALLS: [&str; 19] = [
+pub const CALLS: [&str; 20] = [
     "record",
     "load",
     "draw_last",
@@ -21,6 +22,7 @@ pub const CALLS: [&str; 19] = [
     "hide",
     "take_back",
     "object_at",
+    "list",
     "header",
     "name",
     "name_number",
@@ -36,8 +38,9 @@ pub const CALLS: [&str; 19] = [
 ];
 /// A full run must have reached them all.
 const NUMBERS: [u32; 18] = [0, 1, 2, 3, 4, 5, 6, 7, 8, 9, 10, 11, 12, 13, 14, 15, 16, 18];
-/// A full run must have reached these of the comparison and of the cast too, which alone give 16 and 18.
-const OWN: [(&str, &[u32]); 2] = [("compare", &[0, 1, 2, 3, 4, 5, 6, 7, 8, 16]), ("cast", &[0, 3, 4, 18])];
+/// A full run must have reached these of the comparison and of the cast too, which alone give 16 and 18, and all that the listing has.
+const OWN: [(&str, &[u32]); 3] =
+    [("compare", &[0, 1, 2, 3, 4, 5, 6, 7, 8, 16]), ("cast", &[0, 3, 4, 18]), ("list", &[0, 1, 2, 3, 4, 5, 6, 7, 8])];
 /// The name of a buffer that is a list of actors: it stands at a multiple of 4.
 pub const CAST: &str = "cast";
 
@@ -82,6 +85,8 @@ pub struct Comparison {
     pub clears: Count<Case>,
     /// The same for the deliberate casts.
     pub casts: Count<cast_count::Case>,
+    /// The same for the deliberate listings.
+    pub lists: Count<list_count::Case>,
     /// How often the place of each kind of fault was told as it must be.
     pub places: Count<place_count::Case>,
     /// Whether a call's first buffer, its room, ends with its page; else it may stand anywhere. A scene begins without it.
@@ -106,6 +111,7 @@ impl Comparison {
             pairs: PairCount::default(),
             clears: Count::default(),
             casts: Count::default(),
+            lists: Count::default(),
             places: Count::default(),
             room_at_page_end: false,
             differences: BTreeMap::new(),
@@ -260,6 +266,12 @@ impl Comparison {
         self.casts.report(&cast_count::planned())
     }
 
+    /// The table of deliberate listings, and those that weren't made.
+    fn lists(&self) -> Vec<String> {
+        println!("deliberate listings");
+        self.lists.report(&list_count::planned())
+    }
+
     /// The table of the places of faults, and the kinds that were never told.
     fn places(&self) -> Vec<String> {
         println!("places of faults: {}", self.places.counts.values().sum::<u64>());
@@ -277,6 +289,7 @@ impl Comparison {
             missing.extend(self.pairs.report());
             missing.extend(self.clears());
             missing.extend(self.casts());
+            missing.extend(self.lists());
             missing.extend(self.places());
         }
         if full && !missing.is_empty() {

@@ -1,6 +1,7 @@
 //! Differential tests: the library's C interface against the reference.
 //!
-//!     tests [SEEDS]          seeds 0 to SEEDS − 1, the planned ends of bodies, pairs of rooms, transparent indexes and casts, then the tables
+//!     tests [SEEDS]          seeds 0 to SEEDS − 1, the planned ends of bodies, pairs of rooms, transparent indexes, casts and listings, then
+//!                            the tables
 //!     tests soak SECONDS     new seeds until the time is over, and the same
 //!     tests seed SEED        one seed again
 //!     tests room FILE        the calls on a room from a file
@@ -31,6 +32,10 @@ mod end_scenes;
 mod ends;
 mod lent;
 mod limbs;
+mod list_count;
+mod list_laws;
+mod list_rooms;
+mod list_scenes;
 mod maker;
 mod pair_count;
 mod pair_rooms;
@@ -72,9 +77,13 @@ const CLEARS: u64 = 7 << 61;
 /// A seed from here on is a planned scene with casts. A full run takes each of them.
 const CASTS: u64 = 15 << 60;
 
+/// A seed from here on is a planned scene with listings. A full run takes each of them.
+const LISTS: u64 = 31 << 59;
+
 fn run(b: &mut Comparison, seed: u64) {
     let r = &mut b.scene(seed);
     match seed {
+        LISTS.. => list_scenes::planned(b, r, (seed - LISTS) as usize),
         CASTS.. => cast_scenes::planned(b, r, (seed - CASTS) as usize),
         CLEARS.. => clear_scenes::planned(b, r, (seed - CLEARS) as usize),
         PAIRS.. => compare_scenes::planned(b, r, (seed - PAIRS) as usize),
@@ -86,7 +95,8 @@ fn run(b: &mut Comparison, seed: u64) {
 /// A scene of one of 40 kinds, some of which are rare.
 fn random(b: &mut Comparison, r: &mut Rng, kind: u64) {
     match kind {
-        0..=5 => room_scenes::good(b, r),
+        0..=4 => room_scenes::good(b, r),
+        5 => list_scenes::lists(b, r),
         6 => compare_scenes::versions(b, r),
         7..=11 => room_scenes::damaged(b, r),
         12 => compare_scenes::strangers(b, r),
@@ -177,6 +187,7 @@ fn main() {
         (PAIRS..PAIRS + pairs::planned().len() as u64).for_each(|seed| run(b, seed));
         (CLEARS..CLEARS + clear_count::scenes().len() as u64).for_each(|seed| run(b, seed));
         (CASTS..CASTS + cast_count::scenes().len() as u64).for_each(|seed| run(b, seed));
+        (LISTS..LISTS + list_count::scenes().len() as u64).for_each(|seed| run(b, seed));
     }
     if !b.report(full) {
         std::process::exit(1);

@@ -5,7 +5,7 @@ use crate::rng::Rng;
 use crate::rooms::{self, Plan};
 use crate::strips::{any_code, mask_body, pixel_body, Fault, Strips};
 use crate::tree::leaf;
-use crate::{calls, compare_scenes, damage, session_scenes};
+use crate::{calls, compare_scenes, damage, list_scenes, session_scenes};
 
 /// A buffer of about `need` bytes that holds anything: exactly as long, one shorter, longer or empty.
 pub fn lent(r: &mut Rng, need: usize) -> Vec<u8> {
@@ -38,6 +38,8 @@ fn ask(b: &mut Comparison, r: &mut Rng, room: &[u8], w: usize, h: usize, n: usiz
     }
     let record = lent(r, 16);
     calls::record(b, room, &record);
+    let (record, rows) = (lent(r, 16), lent(r, 32 * objects));
+    calls::list(b, room, &record, &rows);
     for _ in 0..if big { 1 } else { 3 } {
         let object = match r.below(8) {
             0 => r.pick(&[0, objects as u32 + 1, 128, 129, 255, 256, 257, 65_536, 0x8000_0000, 0xFFFF_FFFF]),
@@ -186,6 +188,7 @@ pub fn given(b: &mut Comparison, room: &[u8]) {
         calls::header(b, room, &[1; 16], object);
         calls::name(b, room, object);
     }
+    list_scenes::given(b, room);
     compare_scenes::given(b, room);
     session_scenes::given(b, room);
 }
@@ -201,6 +204,7 @@ pub fn at_the_limit(b: &mut Comparison, r: &mut Rng) {
         let objects = plan.objects();
         calls::load(b, &room, &[1; 450], &[2; 16], &[3; 2]);
         calls::record(b, &room, &[1; 16]);
+        calls::list(b, &room, &[1; 16], &vec![2; 32 * objects]);
         calls::name(b, &room, objects as u32);
         plan.root.kids().pop();
     }

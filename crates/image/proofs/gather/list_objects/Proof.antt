@@ -1,5 +1,5 @@
 use Rattle.image.specs.Rows.{objectRow}
-use Rattle.image.proofs.GatherLaws.{Listing, list-none, list-one, list-more, list-all}
+use Rattle.image.proofs.GatherLaws.{Listing, walked-one, list-none, list-more, list-all}
 use Rattle.block.proofs.Laws.{nth-at}
 use borrow.Author.Needs.{needs}
 use Prim.Native.Nat.{_-_}
@@ -23,13 +23,13 @@ object-row-requires c κs =
     omega arith
 
 add-n : tie.Need-add-n Inv-loop μ-loop
-add-n c = omega (arith, c .before .before .before .before .before .loop .inv .few)
+add-n c = omega (arith, c .before .before .before .before .before .loop .inv .walked .few)
 
 put-row-requires : tie.Need-put-row-requires Inv-loop μ-loop
 put-row-requires c κs =
     let at-b = c .before .before .before .before in let b = at-b .b in let find-tag = at-b .before .before .find-tag in
     let loop = at-b .before .before .before .loop in
-    let one = list-one _ _ _ _ _ _ _ _ (loop .inv) (sym (b .given .1) ∙ find-tag .ensures) in
+    let one = walked-one _ _ _ _ _ (loop .inv .walked) (sym (b .given .1) ∙ find-tag .ensures) in
     omega (arith, one, loop .inv .same)
 
 loop-less : tie.Need-loop-less Inv-loop μ-loop

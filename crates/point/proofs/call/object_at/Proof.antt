@@ -4,9 +4,8 @@ use native.Mathlib.Omega.{arith}
 use denote.Ref.{now}
 use lib.ListN.{length}
 use Rattle.point.specs.Call.{pointedAt}
-use Rattle.point.proofs.CallLaws.{flags-long}
 use Rattle.room.specs.Test.{roomTest}
-use Rattle.room.proofs.TestLaws.{test-passes}
+use Rattle.room.proofs.TestLaws.{test-passes, flags-long}
 use Rattle.image.proofs.CountLaws.{objects-counted, few-objects}
 use Rattle.stored.specs.Layout.{sessionSize}
 use Rattle.point.proofs.call.object_at.Statement.{statement}
