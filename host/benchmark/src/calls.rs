@@ -80,7 +80,7 @@ pub fn record(side: Side, room: &[u8]) -> [u8; 16] {
     out
 }
 
-fn header(side: Side, room: &[u8], which: u32) -> [u8; 16] {
+pub fn header(side: Side, room: &[u8], which: u32) -> [u8; 16] {
     let mut out = [0; object::HEADER];
     let number = match side {
         Side::Library => unsafe { kg_header(room.as_ptr(), room.len(), out.as_mut_ptr(), out.len(), which) },
@@ -91,7 +91,7 @@ fn header(side: Side, room: &[u8], which: u32) -> [u8; 16] {
 }
 
 /// Where the name starts and how long it is.
-fn name(side: Side, room: &[u8], which: u32) -> (usize, usize) {
+pub fn name(side: Side, room: &[u8], which: u32) -> (usize, usize) {
     match side {
         Side::Library => {
             let answer = unsafe { kg_name(room.as_ptr(), room.len(), which) };
@@ -102,17 +102,6 @@ fn name(side: Side, room: &[u8], which: u32) -> (usize, usize) {
             (start, length)
         }
     }
-}
-
-/// What a listing asks for: the record, and header and name of each object.
-pub fn listing(side: Side, room: &Room) -> Vec<u8> {
-    let mut out = record(side, room.bytes()).to_vec();
-    for which in 1..=room.spec.objects as u32 {
-        out.extend(header(side, room.bytes(), which));
-        let (start, length) = name(side, room.bytes(), which);
-        out.extend(&room.bytes()[start..start + length]);
-    }
-    out
 }
 
 /// The object's number, 0 for none.

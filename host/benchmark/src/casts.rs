@@ -3,7 +3,7 @@
 
 use crate::calls::{cast, stamp_record, Scenery, Side, SIDES};
 use crate::clock::{best, timed, Effort};
-use crate::goal::Goals;
+use crate::goal::{Goal, Goals};
 use crate::picture::shape;
 use crate::room::Spec;
 use crate::steps::{played, STEPS};
@@ -141,25 +141,24 @@ fn times(effort: Effort, scene: &Scene) -> [f64; 4] {
     }
     assert!(library.list == scene.sorted, "a cast leaves another order than it was made for");
     let many = |run: &mut dyn FnMut()| timed(|| (0..MANY).for_each(|_| run())) / MANY as f64;
-    best(
+    let ([library, stamps, sort], [reference]) = best(
         effort,
-        [
-            &mut || many(&mut || library.cast(Side::Library)),
-            &mut || many(&mut || reference.cast(Side::Reference)),
-            &mut || many(&mut || stamps.stamps()),
-            &mut || many(&mut || sort.sort_and_stamps()),
-        ],
-    )
+        1,
+        [&mut |_| many(&mut || library.cast(Side::Library)), &mut |_| many(&mut || stamps.stamps()), &mut |_| {
+            many(&mut || sort.sort_and_stamps())
+        }],
+        [&mut |_| many(&mut || reference.cast(Side::Reference))],
+    );
+    [library, reference, stamps, sort]
 }
 
 fn row(effort: Effort, goals: &mut Goals, actors: usize, picture: (u32, u32), clip: u32, arranged: Arranged) {
     let [library, reference, stamps, sort] = times(effort, &Scene::new(actors, picture, clip, arranged));
     let ((width, height), name) = (picture, arranged.name());
-    goals.cast(
-        &[library, reference, stamps],
-        arranged == Arranged::InOrder,
-        &format!("{actors} actors of {width}x{height}, clip level {clip}, {name}"),
-    );
+    let place = format!("{actors} actors of {width}x{height}, clip level {clip}, {name}");
+    let goal = if arranged == Arranged::InOrder { Goal::Cast } else { Goal::CastUnsorted };
+    goals.see(goal, library / stamps, &place);
+    goals.see(Goal::Reference, library / reference, &format!("cast, {place}"));
     let (size, micros, pixel) = (format!("{width}x{height}"), library / 1e3, library / (actors as u32 * width * height) as f64);
     let (stamps, sort, reference) = (library / stamps, library / sort, library / reference);
     println!("{actors:<6} {size:<8} {clip:>4}  {name:<9} {micros:>9.2} {pixel:>7.2} {stamps:>8.3} {sort:>8.3} {reference:>7.2}");
@@ -168,7 +167,7 @@ fn row(effort: Effort, goals: &mut Goals, actors: usize, picture: (u32, u32), cl
 /// A list whose pictures lie outside: what its order costs, an actor.
 fn order_row(effort: Effort, goals: &mut Goals, arranged: Arranged) {
     let [library, reference, stamps, sort] = times(effort, &Scene::outside(arranged));
-    goals.call(&[library, reference], &format!("cast, {MOST} actors outside, {}", arranged.name()));
+    goals.see(Goal::Reference, library / reference, &format!("cast, {MOST} actors outside, {}", arranged.name()));
     let each = (library - stamps) / MOST as f64;
     let (nanos, sorted, rust) = (library, library / sort, (sort - stamps) / MOST as f64);
     println!(

@@ -2,7 +2,7 @@
 
 use crate::calls::{compare, turn, Side, Stage, Turn, SIDES};
 use crate::clock::{best, timed, Effort};
-use crate::goal::Goals;
+use crate::goal::{Goal, Goals};
 use crate::loads::SIZES;
 use crate::picture::Picture;
 use crate::room::{Method, Room, Spec, MIXED};
@@ -63,22 +63,21 @@ fn times(effort: Effort, rooms: &[Room; 2]) -> [f64; 3] {
     let (mut list, mut other) = ([0; 1024], [0; 1024]);
     let mut stages = [Stage::new(&rooms[0]), Stage::new(&rooms[1])];
     let mut load = || rooms.iter().zip(&mut stages).for_each(|(room, stage)| turn(Side::Library, Turn::Load, room, stage));
-    best(
+    let ([library, loads], [reference]) = best(
         effort,
-        [
-            &mut || timed(|| compare(Side::Library, rooms, &mut list)),
-            &mut || timed(|| compare(Side::Reference, rooms, &mut other)),
-            &mut || timed(&mut load),
-        ],
-    )
+        1,
+        [&mut |_| timed(|| compare(Side::Library, rooms, &mut list)), &mut |_| timed(&mut load)],
+        [&mut |_| timed(|| compare(Side::Reference, rooms, &mut other))],
+    );
+    [library, reference, loads]
 }
 
 fn row(effort: Effort, goals: &mut Goals, (w, h): (usize, usize), n: usize, version: Version) {
     let (rooms, places) = pair(w, h, n, version);
-    let times = times(effort, &rooms);
+    let [library, reference, loads] = times(effort, &rooms);
     let (size, name) = (format!("{w}x{h}"), version.name());
-    goals.compare(&times, &format!("{size}, {n} planes, {name}"));
-    let [library, reference, loads] = times;
+    goals.see(Goal::Compare, library / loads, &format!("{size}, {n} planes, {name}"));
+    goals.see(Goal::Reference, library / reference, &format!("compare, {size}, {n} planes, {name}"));
     let (micros, pixel) = (library / 1e3, library / (w * h) as f64);
     let (loads, reference) = (library / loads, library / reference);
     println!("{size:<9} {n:>6}  {name:<10} {places:>7} {micros:>9.1} {pixel:>7.2} {loads:>7.2} {reference:>7.2}");

@@ -3,10 +3,12 @@
 
 use crate::calls::{record, stamp, turn, Side, Turn};
 use crate::loads::{alike, spec};
+use crate::partners::plain;
 use crate::pass::pass;
 use crate::picture::{shape, PICTURES};
 use crate::room::{Room, Spec, METHODS};
-use crate::steps::{draw_state, played, stamp_name, ACTORS, OTHER, STEPS};
+use crate::stamps::{self, ACTORS};
+use crate::steps::{draw_state, played, OTHER, STEPS};
 use reference::actor::Actor;
 use std::path::Path;
 use std::process::{Command, Stdio};
@@ -15,8 +17,8 @@ const SIZE: (usize, usize) = (640, 200);
 const PLANES: [usize; 2] = [0, 4];
 /// The argument of the program under callgrind.
 pub const INSIDE: &str = "counted";
-/// Load, test alone, reference's load, pass.
-const PARTS: usize = 4;
+/// Load, test alone, reference's load, faster pass, plain pass.
+const PARTS: usize = 5;
 /// The room of the calls that paint: width, height, planes, objects.
 const FURNISHED: (usize, usize, usize, usize) = (320, 144, 4, 12);
 /// What is counted in it, with each index. The stamps follow.
@@ -31,11 +33,12 @@ fn counted(run: &mut dyn FnMut()) {
 }
 
 fn count(room: &Room) {
-    let [mut library, mut reference, mut unchecked] = alike(room);
-    counted(&mut || turn(Side::Library, Turn::Load, room, &mut library));
+    let mut stage = alike(room);
+    counted(&mut || turn(Side::Library, Turn::Load, room, &mut stage));
     counted(&mut || (record(Side::Library, room.bytes()), ()).1);
-    counted(&mut || turn(Side::Reference, Turn::Load, room, &mut reference));
-    counted(&mut || pass(room, &mut unchecked.pixels, &mut unchecked.masks));
+    counted(&mut || turn(Side::Reference, Turn::Load, room, &mut stage));
+    counted(&mut || pass(room, &mut stage.pixels, &mut stage.masks));
+    counted(&mut || plain(room, &mut stage.pixels, &mut stage.masks));
 }
 
 /// The library's calls, in the order of `CALLS`, then the stamps.
@@ -90,7 +93,7 @@ fn print_calls(counts: &[f64]) {
     let (w, h, n, objects) = FURNISHED;
     println!("\nInstructions a call, {w}x{h}, {n} planes, {objects} objects, {STEPS} draws in the history, by the transparent index.\n");
     println!("{:<40} {:>10} {:>10}", "call", INDEXES[0], INDEXES[1]);
-    let names = CALLS.into_iter().map(String::from).chain(ACTORS.map(stamp_name));
+    let names = CALLS.into_iter().map(String::from).chain(ACTORS.map(stamps::name));
     for (i, name) in names.enumerate() {
         println!("{name:<40} {:>10} {:>10}", counts[i], counts[PAINTED + i]);
     }
@@ -99,13 +102,20 @@ fn print_calls(counts: &[f64]) {
 fn print(counts: &[f64]) {
     let (w, h) = SIZE;
     println!("Instructions a pixel, rooms of {w}x{h}. test: the whole test alone (kg_record), which is the first part of the load.\n");
-    println!("{:>6}  {:<17} {:<9} {:>7} {:>7} {:>7} {:>10}", "planes", "method", "picture", "load", "test", "pass", "reference");
+    println!(
+        "{:>6}  {:<17} {:<9} {:>7} {:>7} {:>7} {:>7} {:>10}",
+        "planes", "method", "picture", "load", "test", "plain", "pass", "reference"
+    );
     let mut rooms = counts.chunks(PARTS);
     for n in PLANES {
         for (method, picture) in METHODS.iter().flat_map(|method| PICTURES.iter().map(move |picture| (method, picture))) {
             let counts = rooms.next().expect("a room's counts");
-            let [load, test, reference, pass] = [0, 1, 2, 3].map(|i| counts[i] / (w * h) as f64);
-            println!("{n:>6}  {:<17} {:<9} {load:>7.2} {test:>7.2} {pass:>7.2} {reference:>10.2}", method.name(), picture.name());
+            let [load, test, reference, pass, plain] = [0, 1, 2, 3, 4].map(|i| counts[i] / (w * h) as f64);
+            println!(
+                "{n:>6}  {:<17} {:<9} {load:>7.2} {test:>7.2} {plain:>7.2} {pass:>7.2} {reference:>10.2}",
+                method.name(),
+                picture.name()
+            );
         }
     }
 }

@@ -1,25 +1,31 @@
-//! How fast the library is: ratios to the reference and to one unchecked decode pass, measured in turns in one run. host/bench starts it.
+//! How fast the library is: ratios to partners of each call's own, measured in turns in one run. host/bench starts it.
 //!
-//!     benchmark                  every table, a few minutes; then whether the goals are met. The exit status is 0 either way
+//!     benchmark                  every table, two to three minutes; then whether the goals are met. The exit status is 0 either way
 //!     benchmark quick            everything once in a few seconds: the comparisons count, the times don't
 //!     benchmark --instructions   instructions a pixel for the loads and of calls that paint, where valgrind is on the machine
 //!     benchmark ROOM             how long the load and the whole test of one room take
 //!
-//! Before a thing is timed, its result is compared, byte by byte, with the reference's and for loads with the unchecked pass's too.
+//! Before a thing is timed, its result is compared, byte by byte, with the reference's and with that of every other partner.
 
 mod calls;
 mod casts;
+mod class;
 mod clock;
 mod compares;
 mod count;
+mod draws;
 mod goal;
 mod growth;
+mod listing;
 mod loads;
 mod own;
+mod partners;
 mod pass;
 mod picture;
 mod room;
+mod stamps;
 mod steps;
+mod writers;
 
 use clock::Effort;
 use goal::Goals;
@@ -35,8 +41,15 @@ fn fair() -> bool {
 
 fn tables(effort: Effort) {
     let goals = &mut Goals::default();
+    println!("Partners. plain: the usual decoder in C, one operation at a time, a bit at a time, with no test and no colour looked up (partners/plain.c).");
+    println!("pass: a faster decoder in Rust, up to 64 bits at a time, with no test (src/pass.rs). loop, encoder: a stamp and the writers in plain C, with");
+    println!("no test. ref: host/reference, document 01 as Rust, with all tests. C by {}.\n", partners::COMPILER);
     loads::tables(effort, goals);
     steps::tables(effort, goals);
+    draws::tables(effort, goals);
+    listing::tables(effort, goals);
+    stamps::tables(effort, goals);
+    writers::tables(effort, goals);
     growth::tables(effort, goals);
     compares::tables(effort, goals);
     casts::tables(effort, goals);

@@ -23,20 +23,21 @@ fn given(path: &str) -> Result<Room, String> {
 /// The times of a load, library and reference, which must leave the same bytes.
 fn load(room: &Room) -> [f64; 2] {
     let (mut library, mut reference) = (Stage::new(room), Stage::new(room));
-    let times = best(
+    let ([library_time], [reference_time]) = best(
         Effort::Full,
-        [&mut || timed(|| turn(Side::Library, Turn::Load, room, &mut library)), &mut || {
-            timed(|| turn(Side::Reference, Turn::Load, room, &mut reference))
-        }],
+        1,
+        [&mut |_| timed(|| turn(Side::Library, Turn::Load, room, &mut library))],
+        [&mut |_| timed(|| turn(Side::Reference, Turn::Load, room, &mut reference))],
     );
     assert!(library == reference, "library and reference load the room differently");
-    times
+    [library_time, reference_time]
 }
 
 fn test(room: &Room) -> [f64; 2] {
     assert!(record(Side::Library, room.bytes()) == record(Side::Reference, room.bytes()), "library and reference answer different records");
-    let side = |side| move || timed(|| record(side, room.bytes()));
-    best(Effort::Full, [&mut side(Side::Library), &mut side(Side::Reference)])
+    let side = |side| move |_| timed(|| record(side, room.bytes()));
+    let ([library], [reference]) = best(Effort::Full, 1, [&mut side(Side::Library)], [&mut side(Side::Reference)]);
+    [library, reference]
 }
 
 /// Prints the times of the room in a file.

@@ -156,7 +156,7 @@ unsafe fn plane(block: *const u8, strips: usize, h: usize, to: *mut u8) {
 }
 
 /// The first child with this tag of the block that starts at `parent`.
-unsafe fn child(parent: *const u8, tag: &[u8; 4]) -> *const u8 {
+pub unsafe fn child(parent: *const u8, tag: &[u8; 4]) -> *const u8 {
     let mut at = parent.add(8);
     while at.cast::<[u8; 4]>().read() != *tag {
         at = at.add(u32::from_be(at.add(4).cast::<u32>().read_unaligned()) as usize);
@@ -188,20 +188,24 @@ mod tests {
     use super::*;
     use crate::calls::{turn, Side, Stage, Turn};
     use crate::loads::spec;
+    use crate::partners::plain;
     use crate::picture::PICTURES;
     use crate::room::METHODS;
 
     /// Under every method, in strips that hold runs of 256 pixels too.
     #[test]
-    fn the_pass_loads_as_the_reference() {
+    fn both_passes_load_as_the_reference() {
         for (picture, method) in PICTURES.iter().flat_map(|picture| METHODS.map(|method| (*picture, method))) {
             let room = &spec((64, 80), 2, picture, method).make();
-            let (mut wanted, mut stage) = (Stage::new(room), Stage::new(room));
+            let mut wanted = Stage::new(room);
             turn(Side::Reference, Turn::Load, room, &mut wanted);
-            stage.pixels.fill(77);
-            stage.masks.fill(77);
-            pass(room, &mut stage.pixels, &mut stage.masks);
-            assert!(stage == wanted, "{}, {}", picture.name(), method.name());
+            for pass in [pass, plain] {
+                let mut stage = Stage::new(room);
+                stage.pixels.fill(77);
+                stage.masks.fill(77);
+                pass(room, &mut stage.pixels, &mut stage.masks);
+                assert!(stage == wanted, "{}, {}", picture.name(), method.name());
+            }
         }
     }
 }

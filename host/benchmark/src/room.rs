@@ -98,9 +98,9 @@ fn strips(pixels: &[u8], w: usize) -> Vec<Vec<u8>> {
     (0..w / 8).map(|s| pixels.chunks(w).flat_map(|row| row[8 * s..8 * s + 8].to_vec()).collect()).collect()
 }
 
-fn zp(k: usize, w: usize, h: usize) -> Vec<u8> {
+fn zp(k: usize, w: usize, h: usize, rows: &[u8]) -> Vec<u8> {
     let mut out = vec![0; 60_000];
-    let length = write::plane(&plane(k, w, h), &mut out, w as u32, h as u32, k as u32).expect("a plane");
+    let length = write::plane(rows, &mut out, w as u32, h as u32, k as u32).expect("a plane");
     out[..length].to_vec()
 }
 
@@ -117,11 +117,15 @@ pub struct Spec {
     pub image: (usize, usize),
     /// The transparent index. A TRNS block gives it where it isn't 255.
     pub clear: u8,
+    /// Which of the pictures of its kind it shows.
+    pub number: usize,
+    /// Whether the background's planes are zero everywhere.
+    pub empty: bool,
 }
 
 impl Spec {
     pub fn background(w: usize, h: usize, n: usize, picture: Picture, methods: &'static [Method]) -> Spec {
-        Spec { w, h, n, picture, methods, objects: 0, image: (0, 0), clear: 255 }
+        Spec { w, h, n, picture, methods, objects: 0, image: (0, 0), clear: 255, number: 0, empty: false }
     }
 
     /// A room as a game has it, all methods in turn and objects of 32 by 40.
@@ -137,7 +141,7 @@ impl Spec {
     /// State 1 is a transparent shape under both methods in turn, state 2 an opaque picture.
     fn state(&self, object: usize, state: usize) -> Vec<u8> {
         let (width, height) = self.image;
-        let pixels = if state == 1 { shape(width, height, 16 * object, self.clear) } else { self.picture.pixels(width, height) };
+        let pixels = if state == 1 { shape(width, height, 16 * object, self.clear) } else { self.picture.pixels(width, height, object) };
         let mut bodies = vec![];
         for (s, strip) in strips(&pixels, width).iter().enumerate() {
             let method = if s % 2 == 0 { Method::Horizontal } else { Method::Second };
@@ -147,7 +151,7 @@ impl Spec {
             }
             bodies.push(body);
         }
-        let planes: Vec<Vec<u8>> = (1..=self.n).map(|k| zp(k, width, height)).collect();
+        let planes: Vec<Vec<u8>> = (1..=self.n).map(|k| zp(k, width, height, &plane(k, width, height))).collect();
         block(&format!("IM0{state}"), &[smap(&bodies), planes.concat()].concat())
     }
 
@@ -162,10 +166,18 @@ impl Spec {
         [obim, block("OBCD", &[cdhd, obna].concat())].concat()
     }
 
+    /// The rows of the background's plane k. Each room of a class has posts of its own.
+    fn plane(&self, k: usize) -> Vec<u8> {
+        if self.empty {
+            return vec![0; self.w / 8 * self.h];
+        }
+        plane(k + 4 * self.number, self.w, self.h)
+    }
+
     pub fn make(self) -> Room {
-        let strips = strips(&self.picture.pixels(self.w, self.h), self.w);
+        let strips = strips(&self.picture.pixels(self.w, self.h, self.number), self.w);
         let bodies: Vec<Vec<u8>> = strips.iter().enumerate().map(|(s, strip)| body(self.methods[s % self.methods.len()], strip)).collect();
-        let planes: Vec<Vec<u8>> = (1..=self.n).map(|k| zp(k, self.w, self.h)).collect();
+        let planes: Vec<Vec<u8>> = (1..=self.n).map(|k| zp(k, self.w, self.h, &self.plane(k))).collect();
         let im00 = block("IM00", &[smap(&bodies), planes.concat()].concat());
         let rmim = block("RMIM", &[block("RMIH", &u16s(&[self.n])), im00].concat());
         let rmhd = block("RMHD", &u16s(&[self.w, self.h, self.objects]));
@@ -213,7 +225,7 @@ mod tests {
     fn bodies_read_back() {
         let (w, h) = (64, 33);
         for (picture, method) in PICTURES.iter().flat_map(|picture| METHODS.map(|method| (picture, method))) {
-            for pixels in strips(&picture.pixels(w, h), w) {
+            for pixels in strips(&picture.pixels(w, h, 3), w) {
                 assert_eq!(strip::pixels(&body(method, &pixels), h), Ok(pixels), "{}", picture.name());
             }
         }
