@@ -126,17 +126,17 @@ static inline size_t kg_plane_bound(uint32_t w, uint32_t h) { return 8 + (size_t
  * proved. host/calls/stack.c measures again with every test (docs/PERFORMANCE.md). A larger room takes no more. A host that is linked
  * dynamically and binds at first use needs what the dynamic linker takes beside it, once. */
 enum {
-    KG_STACK_RECORD = 4096,     /**< kg_record */
-    KG_STACK_LOAD = 6144,       /**< kg_load */
+    KG_STACK_RECORD = 6144,     /**< kg_record */
+    KG_STACK_LOAD = 12288,      /**< kg_load */
     KG_STACK_DRAW = 24576,      /**< kg_draw_last, kg_draw_at, kg_hide */
     KG_STACK_TAKE_BACK = 24576, /**< kg_take_back */
     KG_STACK_OBJECT_AT = 24576, /**< kg_object_at */
-    KG_STACK_HEADER = 4096,     /**< kg_header, kg_name, kg_name_number */
-    KG_STACK_LIST = 10240,      /**< kg_list */
+    KG_STACK_HEADER = 6144,     /**< kg_header, kg_name, kg_name_number */
+    KG_STACK_LIST = 12288,      /**< kg_list */
     KG_STACK_ACTOR = 1024,      /**< kg_hidden, kg_stamp, kg_cast */
     KG_STACK_COSTUME = 1024,    /**< kg_start, kg_tick, kg_limb_draws */
     KG_STACK_WRITE = 3072,      /**< kg_write_smap, kg_write_plane */
-    KG_STACK_COMPARE = 10240    /**< kg_compare */
+    KG_STACK_COMPARE = 12288    /**< kg_compare */
 };
 
 /* ---- Records ---- */

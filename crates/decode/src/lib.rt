@@ -1,7 +1,9 @@
 // The body of one strip to its pixels by rows, or the number of its refusal (document 01, "Strips of pixels"). Its test, which paints nothing, is
 // crate strip_test.
+mod first;
 mod painting;
 mod placing;
+mod second;
 
 ghost use Prim.Native.Nat.{_*_, _≤_};
 ghost use lib.ListN.{length, drop};

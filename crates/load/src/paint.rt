@@ -3,15 +3,16 @@
 // no call here can be refused: what reading a strip answers is not asked again.
 ghost use mathlib.Core.Path.{_≡_};
 ghost use mathlib.Core.Bool.{true, false};
-ghost use Prim.Native.Nat.{_-_, _+_, _*_, _≤_, _<_};
+ghost use Prim.Native.Nat.{ℕ, _-_, _+_, _*_, _≤_, _<_};
 ghost use lib.ListN.{length};
-ghost use Rattle.grid.specs.Grid.{upd, boxed};
+ghost use Rattle.grid.specs.Grid.{upd, boxed, Inside};
 ghost use Rattle.grid.specs.Mask.{maskOver, rowsOver, Plane};
 ghost use Rattle.plane.specs.Mask.{rowsOf, literals};
 ghost use Rattle.table.specs.Table.{tableRight};
 ghost use Rattle.table.specs.Body.{rowValues, pixelAt, maskAt};
 ghost use Rattle.table.specs.Test.{rowsTest, stripTest, blockTest};
 ghost use Rattle.table.specs.declared.Test.the-variants.{Passed};
+ghost use Rattle.load.specs.Pair.{Shows};
 use grid::join_run;
 use grid::put_rows;
 use plane::Rows;
@@ -31,7 +32,46 @@ pub fn paint_strip(room: &[u8], n: usize, h: usize, b: usize, z: usize, k: usize
     grid::blit_strip(pixels, 8 * n, h, k, 0, &scratch, h, 0, false);
 }
 
-// Every strip of an SMAP block.
+// Two strips of 8 by h pixels, given by rows, side by side from column 8 * k on: 16 bytes in one place of the surface a row. In a wide room
+// every row is another line of the processor's cache, so a line is fetched once for both.
+fn blit_two(pixels: &mut [u8], w: usize, h: usize, k: usize, left: &[u8], right: &[u8])
+    requires { ⌜ Inside (length (now pixels)) w h (8 * k) 0 16 h × (8 * h ≤ length (now left)) × (8 * h ≤ length (now right)) ⌝ }
+    ensures { λ _. ⌜ ((f : ℕ → ℕ → ℕ) → Shows 0 h (now (left .entry)) f → Shows 8 h (now (right .entry)) f
+        → now (pixels .exit) ≡ upd (boxed w (8 * k) 0 16 h (λ c r o. f c r)) (now (pixels .entry))) ⌝ }
+{
+    let mut r: usize = 0;
+    while r < h {
+        grid::blit_strip(pixels, w, h, k, r, &left[8 * r..], 1, 0, false);
+        grid::blit_strip(pixels, w, h, k + 1, r, &right[8 * r..], 1, 0, false);
+        r += 1;
+    }
+}
+
+// Strips k and k + 1 of an SMAP block, at columns 8k and 8k + 8, by way of two scratch buffers.
+fn paint_two(
+    room: &[u8],
+    n: usize,
+    h: usize,
+    b: usize,
+    z: usize,
+    k: usize,
+    left: &mut [u8],
+    right: &mut [u8],
+    pixels: &mut [u8],
+)
+    requires { ⌜ (k + 1 < n) × (n ≤ 128) × (h ≤ 200) × (b ≤ z) × (z ≤ length (now room)) ⌝ }
+    requires { ⌜ tableRight false n (now room) b z ≡ true ⌝ }
+    requires { ⌜ (stripTest false n h (now room) b z k ≡ Passed) × (stripTest false n h (now room) b z (k + 1) ≡ Passed) ⌝ }
+    requires { ⌜ (8 * h ≤ length (now left)) × (8 * h ≤ length (now right)) × (8 * n * h ≤ length (now pixels)) ⌝ }
+    ensures { λ _. ⌜ now (pixels .exit)
+        ≡ upd (boxed (8 * n) (8 * k) 0 16 h (λ c r o. pixelAt n h (now (room .entry)) b z (8 * k + c) r)) (now (pixels .entry)) ⌝ }
+{
+    table::read_strip(room, n, h, b, z, k, left);
+    table::read_strip(room, n, h, b, z, k + 1, right);
+    blit_two(pixels, 8 * n, h, k, left, right);
+}
+
+// Every strip of an SMAP block, two by two.
 pub fn paint_background(room: &[u8], n: usize, h: usize, b: usize, z: usize, pixels: &mut [u8])
     requires { ⌜ (n ≤ 128) × (h ≤ 200) × (b ≤ z) × (z ≤ length (now room)) ⌝ }
     requires { ⌜ blockTest false n h (now room) b z ≡ Passed ⌝ }
@@ -39,10 +79,15 @@ pub fn paint_background(room: &[u8], n: usize, h: usize, b: usize, z: usize, pix
     ensures { λ _. ⌜ now (pixels .exit)
         ≡ upd (boxed (8 * n) 0 0 (8 * n) h (λ x y o. pixelAt n h (now (room .entry)) b z x y)) (now (pixels .entry)) ⌝ }
 {
+    let mut left = [0u8; 1600];
+    let mut right = [0u8; 1600];
     let mut k: usize = 0;
-    while k < n {
+    while k + 2 <= n {
+        paint_two(room, n, h, b, z, k, &mut left, &mut right, pixels);
+        k += 2;
+    }
+    if k < n {
         paint_strip(room, n, h, b, z, k, pixels);
-        k += 1;
     }
 }
 

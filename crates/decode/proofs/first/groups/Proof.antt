@@ -1,3 +1,4 @@
+use mathlib.Core.Bool.{false}
 use Rattle.decode.proofs.PaintLaws.{advances-kept, advances-on}
 use Rattle.bits.specs.Reader.{Hands}
 use native.Mathlib.Omega.{arith}
@@ -5,8 +6,8 @@ use denote.Ref.{now}
 use mathlib.Core.Path.{subst}
 use Prim.Native.Nat.{ℕ}
 use borrow.Author.Needs.{needs}
-use Rattle.decode.proofs.painting.groups.Statement.{statement}
-use Rattle.decode.proofs.painting.groups.Tie as tie
+use Rattle.decode.proofs.first.groups.Statement.{statement}
+use Rattle.decode.proofs.first.groups.Tie as tie
 
 returns : tie.Need-returns
 returns c =
@@ -14,8 +15,8 @@ returns c =
     let if1 = at-if1 .if1 in let many = at-if1 .before .before .take in let a = at-if1 .before .before .before .before .before .args in
     let zeros = subst (λ (v : ℕ). Hands 32 v (a .st .cur) (many .result .next)) (if1 .taken) (many .ensures) in
     rw (c .kept .ensures) (
-      (λ s no-run. omega arith),
-      advances-kept (a .second) (a .w) 32 32 (a .st) (many .result .next) (now (a .out)) (painted .last .0) zeros (omega arith) (painted .ensures .0),
+      omega arith,
+      advances-kept false (a .w) 32 32 (a .st) (many .result .next) (now (a .out)) (painted .last .0) zeros (omega arith) (painted .ensures .0),
     )
 
 returns-2 : tie.Need-returns-2
@@ -26,9 +27,9 @@ returns-2 c =
     let f = group .ensures in
     let g = group2 .ensures in
     let h = group3 .ensures in (
-      (λ s no-run. omega (arith, f .2 s no-run, g .3 .forward, h .3 .forward)),
-      advances-on (a .second) (a .w) 9 23 32 (a .st) _ _ (now (a .out)) _ _ (omega arith) (f .3)
-          (advances-on (a .second) (a .w) 9 9 23 _ _ _ _ _ _ (omega arith) (g .3) (h .3)),
+      omega (arith, f .2, g .3 .forward, h .3 .forward),
+      advances-on false (a .w) 9 23 32 (a .st) _ _ (now (a .out)) _ _ (omega arith) (f .3)
+          (advances-on false (a .w) 9 9 23 _ _ _ _ _ _ (omega arith) (g .3) (h .3)),
     )
 
 pub groups-spec : {M : Type 1} → statement M

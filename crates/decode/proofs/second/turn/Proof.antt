@@ -1,9 +1,10 @@
+use mathlib.Core.Bool.{true}
 use Rattle.decode.proofs.PaintLaws.{turned-many, turned-one, turned-no, stepped-as}
 use denote.Ref.{now}
 use native.Mathlib.Omega.{arith}
 use borrow.Author.Needs.{needs}
-use Rattle.decode.proofs.painting.turn.Statement.{statement}
-use Rattle.decode.proofs.painting.turn.Tie as tie
+use Rattle.decode.proofs.second.turn.Statement.{statement}
+use Rattle.decode.proofs.second.turn.Tie as tie
 
 groups-requires : tie.Need-groups-requires
 groups-requires c κs =
@@ -20,7 +21,7 @@ returns c =
     let a = at-if1 .before .before .before .before .before .args in
     let f = refill .ensures in
     let ok = fits2 .ensures (if1 .taken) in
-    turned-many (a .second) (a .w) (a .total) (now (a .body)) (a .from) (refill .result) (f .0) (f .1) (f .2) (f .5) 32 (groups .result) (now (a .out)) _
+    turned-many true (a .w) (a .total) (now (a .body)) (a .from) (refill .result) (f .0) (f .1) (f .2) (f .5) 32 (groups .result) (now (a .out)) _
     (groups .ensures .1) (groups .ensures .0 (now (a .body)) (ok .none (now (a .body)))) (ok .room) (f .3)
 
 group-requires : tie.Need-group-requires
@@ -38,7 +39,7 @@ returns-2 c =
     let a = at-refill .before .before .before .args in
     let f = refill .ensures in
     let ok = fits3 .ensures (if2 .taken) in
-    turned-many (a .second) (a .w) (a .total) (now (a .body)) (a .from) (refill .result) (f .0) (f .1) (f .2) (f .5) 9 (group .result) (now (a .out)) _
+    turned-many true (a .w) (a .total) (now (a .body)) (a .from) (refill .result) (f .0) (f .1) (f .2) (f .5) 9 (group .result) (now (a .out)) _
     (group .ensures .3) (group .ensures .2 (now (a .body)) (ok .none (now (a .body)))) (ok .room) (f .3)
 
 sub-fill : tie.Need-sub-fill
@@ -47,7 +48,7 @@ sub-fill c =
     let at-refill = at-to .before .before .before .before .before .before .before in let refill = at-refill .refill in
     let a = at-refill .before .before .before .args in
     let f = refill .ensures in
-    let e = stepped-as (a .second) (a .w) (a .total) (now (a .body)) (refill .result) (to .given .1) (step .ensures (now (a .body)) (f .3) (f .4)) in
+    let e = stepped-as true (a .w) (a .total) (now (a .body)) (refill .result) (to .given .1) (step .ensures (now (a .body)) (f .3) (f .4)) in
     omega (arith, e .0)
 
 fill-requires : tie.Need-fill-requires
@@ -56,7 +57,7 @@ fill-requires c κs =
     let at-refill = at-to .before .before .before .before .before .before .before in let refill = at-refill .refill in
     let start = at-refill .before .before .before in let a = start .args in let pre = start .pre in
     let f = refill .ensures in
-    let e = stepped-as (a .second) (a .w) (a .total) (now (a .body)) (refill .result) (to .given .1) (step .ensures (now (a .body)) (f .3) (f .4)) in
+    let e = stepped-as true (a .w) (a .total) (now (a .body)) (refill .result) (to .given .1) (step .ensures (now (a .body)) (f .3) (f .4)) in
     omega (arith, e .0, e .1, pre .4)
 
 returns-3 : tie.Need-returns-3
@@ -65,16 +66,16 @@ returns-3 c =
     let step = at-to .before .before .step in let at-refill = at-to .before .before .before .before .before .before .before in
     let refill = at-refill .refill in let a = at-refill .before .before .before .args in
     let f = refill .ensures in
-    let e = stepped-as (a .second) (a .w) (a .total) (now (a .body)) (refill .result) (to .given .1) (step .ensures (now (a .body)) (f .3) (f .4)) in
-    turned-one (a .second) (a .w) (a .total) (now (a .body)) (a .from) (refill .result) (f .0) (f .1) (f .2) (f .5) _ (now (a .out)) _ e (fill .ensures .0)
+    let e = stepped-as true (a .w) (a .total) (now (a .body)) (refill .result) (to .given .1) (step .ensures (now (a .body)) (f .3) (f .4)) in
+    turned-one true (a .w) (a .total) (now (a .body)) (a .from) (refill .result) (f .0) (f .1) (f .2) (f .5) _ (now (a .out)) _ e (fill .ensures .0)
 
 returns-4 : tie.Need-returns-4
 returns-4 c =
     let step = c .before .before .before .step in let at-refill = c .before .before .before .before .before .before .before .before in
     let refill = at-refill .refill in let a = at-refill .before .before .before .args in
     let f = refill .ensures in
-    let e = stepped-as (a .second) (a .w) (a .total) (now (a .body)) (refill .result) (c .before .n .given .1) (step .ensures (now (a .body)) (f .3) (f .4)) in
-    turned-no (a .second) (a .w) (a .total) (now (a .body)) (a .from) (refill .result) (f .0) (f .1) (f .2) (f .5) _ e
+    let e = stepped-as true (a .w) (a .total) (now (a .body)) (refill .result) (c .before .n .given .1) (step .ensures (now (a .body)) (f .3) (f .4)) in
+    turned-no true (a .w) (a .total) (now (a .body)) (a .from) (refill .result) (f .0) (f .1) (f .2) (f .5) _ e
 
 pub turn-spec : {M : Type 1} → statement M
 turn-spec =
