@@ -3,13 +3,10 @@
 // of its own: where the method is asked for at every operation, a load takes a tenth more.
 ghost use mathlib.Core.Bool.{false};
 ghost use Prim.Native.Nat.{_+_, _≤_, _<_};
-ghost use lib.ListN.{length, drop, getD};
-ghost use Rattle.bits.specs.Bits.{Held, bitsOf};
-ghost use Rattle.strip.specs.Strip.{decode};
-ghost use Rattle.decode.specs.Paint.{Advances, Turned, Decoded};
-use bits::Cursor;
+ghost use lib.ListN.{length};
+ghost use Rattle.bits.specs.Bits.{Held};
+ghost use Rattle.decode.specs.Paint.{Advances, Turned};
 use number::buffer::fill;
-use strip::Made;
 use strip::Next;
 use strip::State;
 use strip::operations::fits;
@@ -57,7 +54,7 @@ fn groups(w: u32, st: State, out: &mut [u8]) -> State
 
 // As many operations as the bits held and the pixels left allow, or one. A group has at most eight keeps and an operation of ten bits: 18 bits,
 // nine pixels.
-fn turn(body: &[u8], w: u32, total: usize, from: State, out: &mut [u8]) -> Next
+pub(crate) fn turn(body: &[u8], w: u32, total: usize, from: State, out: &mut [u8]) -> Next
     requires { ⌜ (w ≤ 8) × Held (now body) (from .cur) × (from .i < total) × (total ≤ 1600) × (total ≤ length (now out)) ⌝ }
     ensures { λ r. ⌜ Turned false w total (now (body .entry)) from (now (out .entry)) (now (out .exit)) r ⌝ }
 {
@@ -75,30 +72,4 @@ fn turn(body: &[u8], w: u32, total: usize, from: State, out: &mut [u8]) -> Next
         }
         Next::Refuse(n) => Next::Refuse(n),
     }
-}
-
-// The pixels of a body, whose first colour is pixel 0, into the first `total` bytes of `out`.
-pub(crate) fn paint(body: &[u8], w: u32, total: usize, out: &mut [u8]) -> Made
-    requires { ⌜ (w ≤ 8) × (1 ≤ total) × (total ≤ 1600) × (2 ≤ length (now body)) × (total ≤ length (now out)) ⌝ }
-    ensures { λ r. ⌜ Decoded total (decode false w total 1 (getD (now (body .entry)) 1 0) 1 (bitsOf (drop 2 (now (body .entry))))) (now (out .exit)) r ⌝ }
-{
-    let first = body[1];
-    out[0] = first;
-    let mut st = State {
-        i: 1,
-        colour: first,
-        step: 1,
-        cur: Cursor::new(2),
-    };
-    while st.i < total {
-        match turn(body, w, total, st, out) {
-            Next::Go(to) => {
-                st = to;
-            }
-            Next::Refuse(n) => {
-                return Made::Refused(n);
-            }
-        }
-    }
-    Made::All
 }
