@@ -6,7 +6,7 @@ ghost use Rattle.actor.specs.Corner.{InFrame};
 use number::{ahead_of, behind_of};
 
 // The columns (or rows) of a picture that lie in the frame: `count` of them, the first of which is the picture's `skip` and the frame's `start`.
-#[derive(Drop)]
+#[derive(Clone, Copy)]
 pub struct Span {
     pub start: usize,
     pub skip: usize,

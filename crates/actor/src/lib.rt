@@ -1,5 +1,7 @@
 // An actor in a room (document 01, "Actors, points, limbs", first paragraph): whether a pixel is hidden at a clip level, and the stamp of the
 // actor's picture on a frame. Both calls test all that they are given, answer a refusal first, and write only then.
+#![tactic(auto)]
+
 mod corner;
 mod mask;
 mod picture;
@@ -12,7 +14,7 @@ ghost use Rattle.actor.specs.Stamp.{stamp_number, stamp_frame};
 
 // The answer to "is this pixel hidden": document 01's number, or whether it is. The bit is handed on as it is, since a branch on it
 // could not be predicted.
-#[derive(Drop)]
+#[derive(Clone, Copy)]
 pub enum Answer {
     Refused(u8),
     Hidden(bool),
@@ -20,8 +22,8 @@ pub enum Answer {
 
 // Whether an actor's pixel at (x, y) is hidden at a clip level, by the masks of n planes of a room of w by h.
 pub fn hidden(masks: &[u8], w: u32, h: u32, n: u32, clip: u32, x: u32, y: u32) -> Answer
-    ensures value { result ≡ hidden_of masks.now w h n clip x y }
-    ensures result_value { number result ≡ hidden_number (length masks.now) w h n x y }
+    ensures answer { result ≡ hidden_of masks.now w h n clip x y }
+    ensures number { number result ≡ hidden_number (length masks.now) w h n x y }
 {
     let w = w as usize;
     let h = h as usize;
@@ -51,7 +53,7 @@ pub fn stamp(
     clip: u32,
     clear: u8,
 ) -> u32
-    ensures value { result ≡ stamp_number (length frame.old) (length masks.now) (length picture.now) w h n width height }
+    ensures number { result ≡ stamp_number (length frame.old) (length masks.now) (length picture.now) w h n width height }
     ensures frame_after { frame.new ≡ stamp_frame frame.old masks.now picture.now w h n width height clear x y clip }
 {
     let w = w as usize;

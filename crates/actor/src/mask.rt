@@ -14,7 +14,7 @@ pub(crate) fn hidden_at(
     y: usize,
 ) -> bool
     requires planes { Planes (length masks.now) w h n }
-    requires x_lt_w { (x < w) × (y < h) }
+    requires in_room { (x < w) × (y < h) }
     ensures { result ≡ hidden_at masks.now w h n clip x y }
 {
     if clip < 1 {
@@ -31,8 +31,8 @@ pub(crate) fn hidden_at(
 // What stands above bit 7 means nothing.
 pub(crate) fn window(masks: &[u8], i: usize, j: usize, s: usize) -> u16
     requires { (i < length masks.now) × (j < length masks.now) × (s < 8) }
-    ensures by_index { (k : ℕ) → s + k < 8 → result / 2 ^ (7 - k) % 2 ≡ get_or masks.now i 0 / 2 ^ (7 - (s + k)) % 2 }
-    ensures by_index_2 { (k : ℕ) → k < 8 → 8 ≤ s + k → result / 2 ^ (7 - k) % 2 ≡ get_or masks.now j 0 / 2 ^ (15 - (s + k)) % 2 }
+    ensures from_first_byte { (k : ℕ) → s + k < 8 → result / 2 ^ (7 - k) % 2 ≡ get_or masks.now i 0 / 2 ^ (7 - (s + k)) % 2 }
+    ensures from_second_byte { (k : ℕ) → k < 8 → 8 ≤ s + k → result / 2 ^ (7 - k) % 2 ≡ get_or masks.now j 0 / 2 ^ (15 - (s + k)) % 2 }
 {
     let a = masks[i] as u16;
     let b = masks[j] as u16;

@@ -22,8 +22,8 @@ pub(crate) fn stamp_box(
     down: Span,
     clip: usize,
 )
-    requires inside { Inside (length frame.old) w h across.start down.start across.count down.count }
-    requires inside_2 { Inside (length picture.now) width height across.skip down.skip across.count down.count }
+    requires in_frame { Inside (length frame.old) w h across.start down.start across.count down.count }
+    requires in_picture { Inside (length picture.now) width height across.skip down.skip across.count down.count }
     requires planes { Planes (length masks.now) w h n }
     ensures { frame.new
         ≡ upd (boxed w across.start down.start across.count down.count

@@ -21,8 +21,8 @@ pub(crate) fn eights(
     count: usize,
     clear: u8,
 )
-    requires count_bound { (x + 8 * count ≤ w) × (y * w + (x + 8 * count) ≤ length frame.old) × (from + 8 * count ≤ length picture.now) }
-    requires w_value { (w % 8 ≡ 0) × (line + w / 8 ≤ length masks.now) }
+    requires in_row { (x + 8 * count ≤ w) × (y * w + (x + 8 * count) ≤ length frame.old) × (from + 8 * count ≤ length picture.now) }
+    requires mask_row { (w % 8 ≡ 0) × (line + w / 8 ≤ length masks.now) }
     ensures { frame.new ≡ upd (rowed w x y (8 * count) (λ k o.
         cond (eqb (get_or picture.now (from + k) 0) clear
         || eqb (get_or masks.now (line + (x + k) / 8) 0 / 2 ^ (7 - (x + k) % 8) % 2) 1) o
@@ -52,8 +52,8 @@ pub(crate) fn masked_row(
     count: usize,
     clear: u8,
 )
-    requires count_bound { (x + count ≤ w) × (y * w + (x + count) ≤ length frame.old) × (from + count ≤ length picture.now) }
-    requires w_value { (w % 8 ≡ 0) × (line + w / 8 ≤ length masks.now) }
+    requires in_row { (x + count ≤ w) × (y * w + (x + count) ≤ length frame.old) × (from + count ≤ length picture.now) }
+    requires mask_row { (w % 8 ≡ 0) × (line + w / 8 ≤ length masks.now) }
     ensures { frame.new ≡ upd (rowed w x y count (λ k o.
         cond (eqb (get_or picture.now (from + k) 0) clear
         || eqb (get_or masks.now (line + (x + k) / 8) 0 / 2 ^ (7 - (x + k) % 8) % 2) 1) o
@@ -94,8 +94,8 @@ pub(crate) fn stamp_row(
     clear: u8,
     clip: usize,
 )
-    requires len_bound { (x + len ≤ w) × (y * w + (x + len) ≤ length frame.old) × (from + len ≤ length picture.now) }
-    requires planes { Planes (length masks.now) w h n × (y < h) }
+    requires in_row { (x + len ≤ w) × (y * w + (x + len) ≤ length frame.old) × (from + len ≤ length picture.now) }
+    requires row_of_planes { Planes (length masks.now) w h n × (y < h) }
     ensures { frame.new ≡ upd (rowed w x y len (λ k o.
         blended masks.now w h n clear clip (x + k) y (get_or picture.now (from + k) 0) o)) frame.old }
 {

@@ -1,12 +1,14 @@
 // The bits of a strip body, read from bit 0 of each byte up (document 01, "Strips of pixels") and fetched many at a time (change request 2): a cursor
 // by value, whose methods answer with the bits and the cursor behind them. Its fields are private, so that bits are handed out in no other way;
 // `view` shows the bits from any place on and hands out none.
+#![tactic(auto)]
+
 ghost use Rattle.std.specs.Prelude.{◌≡◌, true, false, List, ℕ, ◌+◌, ◌*◌, ◌/◌, ◌≤◌, ◌<◌, ◌^◌, length};
 ghost use Rattle.bits.specs.Bits.{Held, rest, Full, word_at, Views};
 ghost use Rattle.bits.specs.Reader.{Starts, Fetches, Hands, Shows, One};
 
 // A place among the bits of a body: the bit buffer `hold`, its number of bits, lowest first, and the bytes from `at` on not yet fetched.
-#[derive(Drop)]
+#[derive(Clone, Copy)]
 pub struct Cursor {
     at: usize,
     bits: u32,
@@ -14,14 +16,14 @@ pub struct Cursor {
 }
 
 // Bits that were handed out, as a number, low bit first, and the cursor behind them.
-#[derive(Drop)]
+#[derive(Clone, Copy)]
 pub struct Taken {
     pub value: u64,
     pub next: Cursor,
 }
 
 // 0 bits that were handed out, how many, and the cursor behind them.
-#[derive(Drop)]
+#[derive(Clone, Copy)]
 pub struct Zeros {
     pub count: u32,
     pub next: Cursor,

@@ -1,4 +1,6 @@
 // The block tree of a room (document 01, "Blocks").
+#![tactic(auto)]
+
 pub mod tags;
 
 ghost use Rattle.std.specs.Prelude.{◌≡◌, ◌+◌, ◌≤◌, length};
@@ -9,7 +11,7 @@ use crate::tags::{OBCD, OBIM, RMIM, ROOM};
 use number::read_be32;
 
 // Where a block stands: its first byte, and the byte after its last.
-#[derive(Drop)]
+#[derive(Clone, Copy)]
 pub enum Found {
     At(usize, usize),
     Missing,
@@ -92,6 +94,7 @@ fn block_ok(s: &[u8], a: usize, z: usize, left: usize) -> bool
 }
 
 // Whether the slice is one ROOM block that fills it, of an allowed size, with a right tree to depth 6.
+#[tactic(auto, unfolding(crate::specs::Tree::well_formed))]
 pub fn well_formed(s: &[u8]) -> bool
     ensures { result ≡ well_formed s.now }
 {

@@ -1,5 +1,7 @@
 // Writes a background as a whole SMAP block, and a plane as a whole ZP block (document 01, "Writing rule"). A block has n strips of
 // h rows; `mask` is true for ZP. A call first sees whether its block has room, gives its refusal, and only then writes.
+#![tactic(auto)]
+
 ghost use Rattle.std.specs.Prelude.{◌≡◌, true, false, List, ◌++◌, ℕ, ◌+◌, ◌*◌, ◌≤◌, ◌<◌, length, get_or, take, leb};
 ghost use Rattle.std.proofs.lemmas.List.Edits.{sets};
 ghost use Rattle.number.specs.Buffer.{over};
@@ -12,7 +14,7 @@ use number::buffer::put_four;
 use number::{put_be32, put_le16, put_le32};
 
 // The answer of a call: the length of the block that it wrote, or the number of its refusal.
-#[derive(Drop)]
+#[derive(Clone, Copy)]
 pub enum Wrote {
     Block(usize),
     Refused(u8),

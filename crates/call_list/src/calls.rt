@@ -59,9 +59,9 @@ fn play_one(
     i: usize,
 ) -> u8
     requires { 20 * i + 20 ≤ length calls.now }
-    ensures value { result
+    ensures number { result
         ≡ number_of room.now (lent session.old pixels.old masks.old) (call_at calls.now i) }
-    ensures masks_after { lent session.new pixels.new masks.new
+    ensures lent_after { lent session.new pixels.new masks.new
         ≡ after_call room.now (lent session.old pixels.old masks.old) (call_at calls.now i) }
 {
     let next = call_from(calls, 20 * i);
@@ -86,7 +86,7 @@ pub fn play_all(
     calls: &[u8],
     numbers: &mut [u8],
 )
-    ensures masks_after { lent session.new pixels.new masks.new
+    ensures lent_after { lent session.new pixels.new masks.new
         ≡ played room.now (lent session.old pixels.old masks.old)
         (calls_of calls.now (call_count calls.now numbers.old)) }
     ensures numbers_after { numbers.new

@@ -1,5 +1,7 @@
 // A room loaded and a list of calls played on it, in one call: the load, then each draw, hide and take-back in order, with its number kept
 // (document 01, "Sessions"). Demand 3 stands in the contract of `run` itself.
+#![tactic(auto)]
+
 ghost use Rattle.std.specs.Prelude.{◌≡◌};
 ghost use Rattle.room.specs.Test.{number_of};
 ghost use Rattle.room.specs.declared.Room as rooms;
@@ -22,8 +24,8 @@ pub fn run(
     calls: &[u8],
     numbers: &mut [u8],
 ) -> u32
-    ensures value { result ≡ number_of (test_of room.now (lent session.old pixels.old masks.old)) }
-    ensures masks_after { lent session.new pixels.new masks.new
+    ensures number { result ≡ number_of (test_of room.now (lent session.old pixels.old masks.old)) }
+    ensures lent_after { lent session.new pixels.new masks.new
         ≡ bytes_run room.now (lent session.old pixels.old masks.old) calls.now
         (call_count calls.now numbers.old) }
     ensures numbers_after { numbers.new

@@ -45,6 +45,7 @@ pub fn frame_number(frame: usize, masks: usize, w: usize, h: usize, n: usize) ->
 }
 
 // The number of a call by its count of records, its frame and its planes.
+#[tactic(auto, unfolding(crate::specs::Call::first_number))]
 pub fn first_number(count: usize, frame: usize, masks: usize, w: u32, h: u32, n: u32) -> u32
     ensures { result ≡ first_number count frame masks w h n }
 {

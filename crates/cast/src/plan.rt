@@ -3,7 +3,7 @@ ghost use Rattle.std.specs.Prelude.{◌≡◌, ◌≤◌};
 ghost use Rattle.cast.specs.Turns.{plan_of};
 
 // Where the sort begins, its most turns, and how many records are tested or painted.
-#[derive(Drop)]
+#[derive(Clone, Copy)]
 pub struct Plan {
     pub from: usize,
     pub turns: usize,

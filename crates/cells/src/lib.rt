@@ -1,5 +1,7 @@
 // Cells of one row of the frame under pixels of a picture: n of them from (x, y) on, the picture's from `from` on. Nothing here reads the masks:
 // a run is hidden nowhere, or where the bits that it is given say so. The index `clear` is never written.
+#![tactic(auto)]
+
 ghost use Rattle.std.specs.Prelude.{◌≡◌, false, ◌||◌, cond, ◌+◌, ◌-◌, ◌*◌, ◌/◌, ◌%◌, ◌^◌, ◌≤◌, ◌<◌, eqb, length, get_or, set};
 ghost use Rattle.grid.specs.Grid.{upd, rowed};
 

@@ -6,6 +6,7 @@ ghost use Rattle.climb.specs.Tables.{state_in, boxes_of};
 use number::wide_u32;
 
 // A parent in this state lets its child be found, by the child's flags.
+#[tactic(auto, unfolding(crate::specs::Climb::lets))]
 fn lets(flags: u32, state: u32) -> bool
     ensures { result ≡ Rattle.climb.specs.Climb.lets flags state }
 {

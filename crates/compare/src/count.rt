@@ -14,8 +14,8 @@ fn unlike(x: u8, y: u8) -> u32
 // At how many of the first n places f and g differ.
 pub fn unequal(f: &[u8], g: &[u8], n: usize) -> u32
     requires { (n ≤ length f.now) × (n ≤ length g.now) × (n ≤ 1600) }
-    ensures value { result ≡ differing (λ j. get_or f.now j 0) (λ j. get_or g.now j 0) n }
-    ensures upper_bound { result ≤ n }
+    ensures count { result ≡ differing (λ j. get_or f.now j 0) (λ j. get_or g.now j 0) n }
+    ensures at_most_n { result ≤ n }
 {
     let mut count: u32 = 0;
     let mut i: usize = 0;

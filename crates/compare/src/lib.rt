@@ -1,5 +1,7 @@
 // Two rooms compared strip by strip (change request 1): which strips differ, in how many pixels and in which planes. Each strip of each room is
 // decoded once, and each plane's block is found once.
+#![tactic(auto)]
+
 pub mod count;
 pub mod places;
 pub mod planes;
@@ -16,7 +18,7 @@ use room::test::{nothing_lent, test_room};
 use room::{Room, Tested};
 
 // The answer: how many places of the list were filled, or a refusal's number.
-#[derive(Drop)]
+#[derive(Clone, Copy)]
 pub enum Compared {
     Listed(usize),
     Refused(u8),
@@ -25,7 +27,7 @@ pub enum Compared {
 // The list of two rooms of the same size that pass their tests: 4 where it has too few places.
 fn list_differences(a: &[u8], ra: Room, b: &[u8], rb: Room, list: &mut [u8]) -> Compared
     requires { Comparable a.now ra b.now rb }
-    ensures value { result ≡ answer_of (outcome_of (rooms a.now ra b.now rb) (length list.old)) }
+    ensures answer { result ≡ answer_of (outcome_of (rooms a.now ra b.now rb) (length list.old)) }
     ensures list_after { list.new
         ≡ list_after (outcome_of (rooms a.now ra b.now rb) (length list.old)) list.old }
 {
@@ -45,7 +47,7 @@ fn list_differences(a: &[u8], ra: Room, b: &[u8], rb: Room, list: &mut [u8]) -> 
 // Both rooms pass their tests: 16 where their sizes differ.
 fn compare_tested(a: &[u8], ra: Room, b: &[u8], rb: Room, list: &mut [u8]) -> Compared
     requires { Rattle.compare.specs.Tables.Tested a.now ra × Rattle.compare.specs.Tables.Tested b.now rb }
-    ensures value { result ≡ answer_of (outcome_of (rooms a.now ra b.now rb) (length list.old)) }
+    ensures answer { result ≡ answer_of (outcome_of (rooms a.now ra b.now rb) (length list.old)) }
     ensures list_after { list.new
         ≡ list_after (outcome_of (rooms a.now ra b.now rb) (length list.old)) list.old }
 {
@@ -60,7 +62,7 @@ fn compare_tested(a: &[u8], ra: Room, b: &[u8], rb: Room, list: &mut [u8]) -> Co
 
 // Compares two rooms: A's refusals, then B's, then 16 and 4.
 pub fn compare(a: &[u8], b: &[u8], list: &mut [u8]) -> Compared
-    ensures value { result ≡ answer_of (compared_of a.now b.now (length list.old)) }
+    ensures answer { result ≡ answer_of (compared_of a.now b.now (length list.old)) }
     ensures list_after { list.new
         ≡ list_after (compared_of a.now b.now (length list.old)) list.old }
 {

@@ -50,10 +50,10 @@ fn put_place(list: &mut [u8], at: usize, counts: &[u32], marks: &[u8], k: usize)
 
 // The place of strip k from `at` on, if the strip differs: where the next place begins.
 fn put_next(list: &mut [u8], at: usize, counts: &[u32], marks: &[u8], k: usize) -> usize
-    requires k_in_bounds { (at + 8 * length (next (table_at counts.now marks.now k)) ≤ length list.old) × (at ≤ 1024) }
-    requires k_in_bounds_2 { (k < length counts.now) × (k < length marks.now) }
-    ensures list_after { list.new ≡ sets list.old at (list_bytes (next (table_at counts.now marks.now k))) }
-    ensures value { result ≡ at + 8 * length (next (table_at counts.now marks.now k)) }
+    requires place_fits { (at + 8 * length (next (table_at counts.now marks.now k)) ≤ length list.old) × (at ≤ 1024) }
+    requires strip_counted { (k < length counts.now) × (k < length marks.now) }
+    ensures place_put { list.new ≡ sets list.old at (list_bytes (next (table_at counts.now marks.now k))) }
+    ensures next_place { result ≡ at + 8 * length (next (table_at counts.now marks.now k)) }
 {
     if is_off(counts, marks, k) {
         put_place(list, at, counts, marks, k);
@@ -64,8 +64,8 @@ fn put_next(list: &mut [u8], at: usize, counts: &[u32], marks: &[u8], k: usize) 
 
 // The places of the first n strips that differ, at the list's front.
 pub fn put_places(counts: &[u32], marks: &[u8], n: usize, list: &mut [u8])
-    requires n_in_bounds { (n ≤ length counts.now) × (n ≤ length marks.now) × (n ≤ 128) }
-    requires n_in_bounds_2 { 8 * length (listed_to (table_at counts.now marks.now) n) ≤ length list.old }
+    requires strips_counted { (n ≤ length counts.now) × (n ≤ length marks.now) × (n ≤ 128) }
+    requires places_fit { 8 * length (listed_to (table_at counts.now marks.now) n) ≤ length list.old }
     ensures { list.new
         ≡ over (list_bytes (listed_to (table_at counts.now marks.now) n)) list.old }
 {

@@ -75,7 +75,7 @@ fn marked(old: u8, bit: u8, differs: bool) -> u8
 // Marks plane q + 1 of each strip beside the planes before it.
 fn mark_plane(a: &[u8], ra: Room, b: &[u8], rb: Room, q: usize, marks: &mut [u8])
     requires comparable { Comparable a.now ra b.now rb × (q < 4) × (128 ≤ length marks.old) }
-    requires marks { Marks (rooms a.now ra b.now rb) q (strips ra) marks.old }
+    requires marked_before { Marks (rooms a.now ra b.now rb) q (strips ra) marks.old }
     ensures { Marks (rooms a.now ra b.now rb) (suc q) (strips ra) marks.new }
 {
     let n = ra.width / 8;
@@ -105,7 +105,7 @@ fn larger(x: usize, y: usize) -> usize
 // The planes of each strip that differ, up to the larger N.
 pub fn mark_planes(a: &[u8], ra: Room, b: &[u8], rb: Room, marks: &mut [u8])
     requires comparable { Comparable a.now ra b.now rb × (128 ≤ length marks.old) }
-    requires marks { Marks (rooms a.now ra b.now rb) 0 (strips ra) marks.old }
+    requires none_marked { Marks (rooms a.now ra b.now rb) 0 (strips ra) marks.old }
     ensures { Marks (rooms a.now ra b.now rb) (most (rooms a.now ra b.now rb)) (strips ra)
         marks.new }
 {

@@ -1,5 +1,7 @@
 // The start of a costume's animation (document 01, "Actors, points, limbs"): the offset table, the record that it leads to, and the limbs that
 // the record sets. The call tests all that it is given, answers a refusal first, and writes only then.
+#![tactic(auto)]
+
 mod record;
 mod table;
 
@@ -10,7 +12,7 @@ use crate::record::begin_limbs;
 use crate::table::{is_defined, offset_at, start_number};
 
 // What a record says of one limb.
-#[derive(Drop)]
+#[derive(Clone, Copy)]
 pub enum Entry {
     // The mask does not name the limb.
     Unnamed,
@@ -22,7 +24,7 @@ pub enum Entry {
 }
 
 // What a start answers.
-#[derive(Drop)]
+#[derive(Clone, Copy)]
 pub enum Started {
     // The limbs that the record names are set.
     Set,

@@ -1,5 +1,7 @@
 // The body of one strip to its pixels by rows, or the number of its refusal (document 01, "Strips of pixels"). Its test, which paints nothing, is
 // crate strip_test.
+#![tactic(auto)]
+
 mod first;
 mod painting;
 mod placing;

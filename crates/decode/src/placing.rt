@@ -8,11 +8,11 @@ use number::buffer::copy;
 // Row y of a strip whose pixels are made by columns, where the rows above it are done. A column further is h pixels further, so that no pixel
 // costs a division.
 fn row(src: &[u8], h: usize, y: usize, out: &mut [u8])
-    requires h_bound { (h ≤ 200) × (y < h) × (8 * h ≤ length src.now) × (8 * h ≤ length out.old) }
-    requires out_value { take (8 * y) out.old ≡ up_to (λ j. get_or src.now (source_of true h j) 0) (8 * y) }
-    ensures out_len_unchanged { length out.new ≡ length out.old }
-    ensures out_unchanged { drop (8 * y + 8) out.new ≡ drop (8 * y + 8) out.old }
-    ensures out_after { take (8 * y + 8) out.new ≡ up_to (λ j. get_or src.now (source_of true h j) 0) (8 * y + 8) }
+    requires row_fits { (h ≤ 200) × (y < h) × (8 * h ≤ length src.now) × (8 * h ≤ length out.old) }
+    requires rows_above_done { take (8 * y) out.old ≡ up_to (λ j. get_or src.now (source_of true h j) 0) (8 * y) }
+    ensures length_stays { length out.new ≡ length out.old }
+    ensures rest_stays { drop (8 * y + 8) out.new ≡ drop (8 * y + 8) out.old }
+    ensures row_done { take (8 * y + 8) out.new ≡ up_to (λ j. get_or src.now (source_of true h j) 0) (8 * y + 8) }
 {
     let base = 8 * y;
     let mut c: usize = 0;

@@ -34,7 +34,7 @@ fn group(w: u32, st: State, out: &mut [u8]) -> State
 // Many operations: 32 keeps at once, or three groups.
 fn groups(w: u32, st: State, out: &mut [u8]) -> State
     requires { (w ≤ 8) × (54 ≤ st.cur.bits) × (st.cur.bits ≤ 63) × (st.i + 32 ≤ 1600) × (st.i + 32 ≤ length out.old) }
-    ensures by_index { (s : List ℕ) → run_ahead true (rest s st.cur) ≡ false → st.i < result.i }
+    ensures moves_on { (s : List ℕ) → run_ahead true (rest s st.cur) ≡ false → st.i < result.i }
     ensures advances { Advances true w 32 st out.old result out.new }
 {
     let cur = st.cur;

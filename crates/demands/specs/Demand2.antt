@@ -4,8 +4,8 @@
 --
 -- Said of what the contracts of the calls promise (crate kildegrom): `test_of` and `after_load` of kg_load, `header_call` and `header_after` of
 -- kg_header, `start_number`, `start_bytes`, `tick_number`, `tick_bytes` and `drawn_of` of the costume's calls, `smap_outcome` and `plane_outcome`,
--- `answer_of` and `target_after` of the writers, `hidden_of` of kg_hidden, `stamp_number` and `stamp_frame` of kg_stamp, `number_in`, `cast_list` and `cast_frame` of
--- kg_cast (page Request7, which is part of this one). What kg_compare says of two rooms' pixels and planes: page Request1.
+-- `answer_of` and `target_after` of the writers, `hidden_of` of kg_hidden, `stamp_number` and `stamp_frame` of kg_stamp, `number_in`, `cast_list` and
+-- `cast_frame` of kg_cast (page Request7, which is part of this one). What kg_compare says of two rooms' pixels and planes: page Request1.
 use Rattle.std.specs.Prelude.{ℕ, ◌+◌, ◌-◌, ◌*◌, ◌/◌, ◌%◌, ◌≤◌, ◌<◌, ◌≡◌, Bool, false, cond, List, ◌++◌, ◌↔◌, ℤ, pos, ◌+ℤ◌, length, get_or, drop, replicate}
 use Rattle.number.specs.Buffer.{over}
 use Rattle.bits.specs.Bits.{bits_of}

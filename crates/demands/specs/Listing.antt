@@ -2,8 +2,8 @@
 -- and which of its states a draw doesn't refuse with 11.
 --
 -- Said of what the contracts of the calls promise (crate kildegrom): `list_test`, `record_after` and `rows_after` of kg_list; `record_test` of kg_record,
--- `header_call` and `header_after` of kg_header, `name_place` and `name_number` of kg_name; `drawable`: page Refusals, `eleven_draw`. When each number is given:
--- page Refusals too.
+-- `header_call` and `header_after` of kg_header, `name_place` and `name_number` of kg_name; `drawable`: page Refusals, `eleven_draw`. When each
+-- number is given: page Refusals too.
 use Rattle.std.specs.Prelude.{ℕ, ◌+◌, ◌-◌, ◌*◌, ◌/◌, ◌%◌, ◌^◌, ◌≤◌, ◌<◌, ◌≡◌, true, List, ◌↔◌, ◌⊎◌, length, get_or}
 use Rattle.number.specs.Number.{le16, le32}
 use Rattle.room.specs.Test.{number_of}

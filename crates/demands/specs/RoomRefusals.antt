@@ -91,7 +91,7 @@ TableBad mask n s b z =
     (z - b < table_end mask n) ⊎ ((k : ℕ) × (k < n) × (bodiless mask (offset_at mask s b k) ≡ false) × OffsetWrong mask n s b z k)
 
 -- ---- 9: "A session is right for a room exactly if its history replays without refusal to its list." Histories stand newest first; they are
--- replayed from the session's ground, which is what a load leaves
+-- replayed from the session's base, which is what a load leaves
 abbrev pub OtherSession : scene.Room → Session → Type 0
 OtherSession room ss =
     ((later : List Step) × (st : Step) × (earlier : List Step) × (ss.history ≡ later ++ (st ∷ earlier))

@@ -1,4 +1,6 @@
 // Writes into flat buffers that are read as grids: a strip of pixels, and rows of a mask plane.
+#![tactic(auto)]
+
 ghost use Rattle.std.specs.Prelude.{◌≡◌, false, ◌+◌, ◌-◌, ◌*◌, ◌≤◌, length};
 ghost use Rattle.grid.specs.Grid.{upd, boxed, Inside};
 ghost use Rattle.grid.specs.Mask.{mask_over, rows_over, Plane};
@@ -28,7 +30,7 @@ pub fn blit_strip(
     transparent: bool,
 )
     requires inside { Inside (length pixels.old) w h (8 * s) y0 8 rows }
-    requires rows_in_bounds { 8 * rows ≤ length strip.now }
+    requires rows_given { 8 * rows ≤ length strip.now }
     ensures { pixels.new
         ≡ upd (boxed w (8 * s) y0 8 rows (strip_over strip.now index transparent)) pixels.old }
 {
@@ -66,8 +68,8 @@ pub fn put_rows(
     n: usize,
     replace: bool,
 )
-    requires plane { Plane (length masks.old) width h planes k s y0 n }
-    requires n_in_bounds { n ≤ length rows.now }
+    requires in_plane { Plane (length masks.old) width h planes k s y0 n }
+    requires rows_given { n ≤ length rows.now }
     ensures { masks.new
         ≡ upd (boxed width s ((k - 1) * h + y0) 1 n (rows_over rows.now replace)) masks.old }
 {

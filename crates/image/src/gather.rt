@@ -11,7 +11,7 @@ use block::{Found, find_tag, need_tag};
 // Puts the rows of the objects, with no image, or with their boxes; and counts them.
 pub fn list_objects(room: &[u8], boxes: bool, table: &mut [u32]) -> usize
     requires { (object_count room.now ≤ 128) × (1032 ≤ length table.old) }
-    ensures value { result ≡ object_count room.now }
+    ensures count { result ≡ object_count room.now }
     ensures filled { Filled room.now (object_row boxes room.now) table.old table.new }
 {
     let end = room.len();
@@ -34,8 +34,8 @@ pub fn list_objects(room: &[u8], boxes: bool, table: &mut [u32]) -> usize
 
 // Puts the OBIM [b, z) for each object of its id that has no image yet.
 fn offer_image(room: &[u8], table: &mut [u32], objects: usize, b: usize, z: usize)
-    requires b_bound { (b + 8 ≤ z) × (z ≤ length room.now) × (length room.now ≤ 1048576) }
-    requires objects_bound { (objects ≤ 128) × (1032 ≤ length table.old) }
+    requires block_in_room { (b + 8 ≤ z) × (z ≤ length room.now) × (length room.now ≤ 1048576) }
+    requires table_fits { (objects ≤ 128) × (1032 ≤ length table.old) }
     ensures { Offered room.now table.old table.new objects (Found.At b z) }
 {
     match need_tag(room, b + 8, z, IMHD, 16) {

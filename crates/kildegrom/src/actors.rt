@@ -33,7 +33,7 @@ pub extern "C" fn kg_stamp(
     clip: u32,
     clear: u8,
 ) -> u32
-    ensures value { result ≡ stamp_number (length frame.old) (length masks.now) (length picture.now) w h n width height }
+    ensures number { result ≡ stamp_number (length frame.old) (length masks.now) (length picture.now) w h n width height }
     ensures frame_after { frame.new ≡ stamp_frame frame.old masks.now picture.now w h n width height clear x y clip }
 {
     actor::stamp(

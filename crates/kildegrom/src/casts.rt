@@ -4,8 +4,7 @@ ghost use Rattle.cast.specs.Call.{number_in, cast_list, cast_frame};
 
 use cast::Actor;
 
-// Paints actors back to front: the list is put in painting order in place, and each is stamped on the frame in that order. The function only passes
-// its slices on: one that is lent structs is proved by hand.
+// Paints actors back to front: the list is put in painting order in place, and each is stamped on the frame in that order.
 #[unsafe(no_mangle)]
 pub extern "C" fn kg_cast(
     list: &mut [Actor],

@@ -8,7 +8,7 @@ use compare::Compared;
 // Which strips of two rooms differ, as a list of places; the value is how many were filled.
 #[unsafe(no_mangle)]
 pub extern "C" fn kg_compare(a: &[u8], b: &[u8], list: &mut [u8]) -> u64
-    ensures value { result ≡ compared_word (answer_of (compared_of a.now b.now (length list.old))) }
+    ensures answer { result ≡ compared_word (answer_of (compared_of a.now b.now (length list.old))) }
     ensures list_after { list.new
         ≡ list_after (compared_of a.now b.now (length list.old)) list.old }
 {

@@ -19,7 +19,7 @@ pub extern "C" fn kg_start(
     chore: u32,
     direction: u32,
 ) -> u64
-    ensures value { result ≡ started_word (started_of payload.now limbs.old table count command chore direction) }
+    ensures answer { result ≡ started_word (started_of payload.now limbs.old table count command chore direction) }
     ensures limbs_after { limbs.new ≡ start_bytes payload.now limbs.old table count command chore direction }
 {
     match costume::start(payload, limbs, table, count, command, chore, direction) {
@@ -32,7 +32,7 @@ pub extern "C" fn kg_start(
 // One tick of all limbs.
 #[unsafe(no_mangle)]
 pub extern "C" fn kg_tick(payload: &[u8], limbs: &mut [u8], command: u32) -> u32
-    ensures value { result ≡ tick_number payload.now limbs.old command }
+    ensures number { result ≡ tick_number payload.now limbs.old command }
     ensures limbs_after { limbs.new ≡ tick_bytes payload.now limbs.old command }
 {
     limbs::tick(payload, limbs, command)

@@ -10,8 +10,8 @@ ghost use Rattle.play.specs.Bytes.{lent, test_of, after_load};
 // The room's record.
 #[unsafe(no_mangle)]
 pub extern "C" fn kg_record(room: &[u8], out: &mut [u8]) -> u32
-    ensures value { result ≡ number_of (record_test room.now out.old) }
-    ensures out_after { out.new ≡ record_after (record_test room.now out.old) out.old }
+    ensures number { result ≡ number_of (record_test room.now out.old) }
+    ensures record_after { out.new ≡ record_after (record_test room.now out.old) out.old }
 {
     objects::record::record(room, out)
 }
@@ -24,8 +24,8 @@ pub extern "C" fn kg_load(
     pixels: &mut [u8],
     masks: &mut [u8],
 ) -> u32
-    ensures value { result ≡ number_of (test_of room.now (lent session.old pixels.old masks.old)) }
-    ensures masks_after { lent session.new pixels.new masks.new
+    ensures number { result ≡ number_of (test_of room.now (lent session.old pixels.old masks.old)) }
+    ensures lent_after { lent session.new pixels.new masks.new
         ≡ after_load room.now (lent session.old pixels.old masks.old) }
 {
     load::load(room, session, pixels, masks)
@@ -34,8 +34,8 @@ pub extern "C" fn kg_load(
 // An object's header.
 #[unsafe(no_mangle)]
 pub extern "C" fn kg_header(room: &[u8], out: &mut [u8], object: u32) -> u32
-    ensures value { result ≡ place_number (header_call room.now out.old object) }
-    ensures out_after { out.new ≡ header_after room.now (header_call room.now out.old object) out.old }
+    ensures number { result ≡ place_number (header_call room.now out.old object) }
+    ensures header_after { out.new ≡ header_after room.now (header_call room.now out.old object) out.old }
 {
     objects::object::header_record(room, out, object)
 }
@@ -59,8 +59,8 @@ pub extern "C" fn kg_name_number(room: &[u8], object: u32) -> u32
 // The listing of a room: its record into `out`, and a row of 32 bytes for each object.
 #[unsafe(no_mangle)]
 pub extern "C" fn kg_list(room: &[u8], out: &mut [u8], rows: &mut [u8]) -> u32
-    ensures value { result ≡ number_of (list_test room.now out.old rows.old) }
-    ensures out_after { out.new ≡ record_after (list_test room.now out.old rows.old) out.old }
+    ensures number { result ≡ number_of (list_test room.now out.old rows.old) }
+    ensures record_after { out.new ≡ record_after (list_test room.now out.old rows.old) out.old }
     ensures rows_after { rows.new
         ≡ rows_after room.now (list_test room.now out.old rows.old) rows.old }
 {

@@ -17,9 +17,9 @@ pub extern "C" fn kg_draw_last(
     object: u32,
     state: u32,
 ) -> u32
-    ensures value { result
+    ensures number { result
         ≡ number_of room.now (lent session.old pixels.old masks.old) (Make (Draw object state Last)) }
-    ensures masks_after { lent session.new pixels.new masks.new
+    ensures lent_after { lent session.new pixels.new masks.new
         ≡ after_call room.now (lent session.old pixels.old masks.old) (Make (Draw object state Last)) }
 {
     play::calls::call(
@@ -43,9 +43,9 @@ pub extern "C" fn kg_draw_at(
     a: u32,
     b: u32,
 ) -> u32
-    ensures value { result
+    ensures number { result
         ≡ number_of room.now (lent session.old pixels.old masks.old) (Make (Draw object state (Strip a b))) }
-    ensures masks_after { lent session.new pixels.new masks.new
+    ensures lent_after { lent session.new pixels.new masks.new
         ≡ after_call room.now (lent session.old pixels.old masks.old) (Make (Draw object state (Strip a b))) }
 {
     play::calls::call(
@@ -66,9 +66,9 @@ pub extern "C" fn kg_hide(
     masks: &mut [u8],
     object: u32,
 ) -> u32
-    ensures value { result
+    ensures number { result
         ≡ number_of room.now (lent session.old pixels.old masks.old) (Make (Hide object)) }
-    ensures masks_after { lent session.new pixels.new masks.new
+    ensures lent_after { lent session.new pixels.new masks.new
         ≡ after_call room.now (lent session.old pixels.old masks.old) (Make (Hide object)) }
 {
     play::calls::call(room, session, pixels, masks, Call::Make(Step::Hide(object)))
@@ -82,9 +82,9 @@ pub extern "C" fn kg_take_back(
     pixels: &mut [u8],
     masks: &mut [u8],
 ) -> u32
-    ensures value { result
+    ensures number { result
         ≡ number_of room.now (lent session.old pixels.old masks.old) TakeBack }
-    ensures masks_after { lent session.new pixels.new masks.new
+    ensures lent_after { lent session.new pixels.new masks.new
         ≡ after_call room.now (lent session.old pixels.old masks.old) TakeBack }
 {
     play::calls::call(room, session, pixels, masks, Call::TakeBack)

@@ -46,8 +46,8 @@ pub fn covers_strip(table: &[u32], e: Entry, k: usize) -> bool
 
 // Where the image of object o in state st is read from.
 pub fn source_of(room: &[u8], table: &[u32], o: usize, st: usize) -> Source
-    requires gathered { Gathered room.now table.now × (1 ≤ o) × (o ≤ object_count room.now) × (st ≤ 9) }
-    requires st_value { is_at (smap_of room.now (state_block room.now o st)) ≡ true }
+    requires object_gathered { Gathered room.now table.now × (1 ≤ o) × (o ≤ object_count room.now) × (st ≤ 9) }
+    requires has_smap { is_at (smap_of room.now (state_block room.now o st)) ≡ true }
     ensures { Stands room.now o st result }
 {
     let strips = table[8 * o + 3] as usize / 8;

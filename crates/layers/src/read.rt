@@ -24,7 +24,7 @@ pub fn none_clear(values: &[u8], n: usize, index: u8, clear: bool) -> bool
 
 // The rows of strip j of plane p; zeros where the plane is missing.
 pub fn plane_rows(room: &[u8], m: Source, p: usize, j: usize, out: &mut [u8])
-    requires readable { Readable room.now m × (j < m.strips) × (p ≤ 4) × (m.height ≤ length out.old) }
+    requires strip_readable { Readable room.now m × (j < m.strips) × (p ≤ 4) × (m.height ≤ length out.old) }
     requires plane_passes { PlanePasses room.now m p }
     ensures { (y : ℕ) → y < m.height → get_or out.new y 0 ≡ mask_in room.now m p j y }
 {

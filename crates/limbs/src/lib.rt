@@ -1,5 +1,7 @@
 // The 16 limbs of a costume (document 01, "Actors, points, limbs"): their lent bytes, 16 to a limb, a tick of them, and whether a limb draws.
 // Each call tests all that it is given, answers a refusal first, and writes only then.
+#![tactic(auto)]
+
 pub mod bytes;
 pub mod ticking;
 
@@ -11,7 +13,7 @@ use crate::bytes::{draw, limb_at, limbs_right};
 use crate::ticking::{tick_limbs, tick_number};
 
 // A limb as its bytes give it; start and place are indexes into the command stream.
-#[derive(Drop)]
+#[derive(Clone, Copy)]
 pub struct Limb {
     pub active: u8,
     pub stopped: u8,
@@ -24,7 +26,7 @@ pub struct Limb {
 }
 
 // What the question whether a limb draws answers.
-#[derive(Drop)]
+#[derive(Clone, Copy)]
 pub enum Drawn {
     // Document 01's number.
     Refused(u8),

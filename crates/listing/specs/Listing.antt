@@ -1,6 +1,6 @@
 -- The listing of a room (document 01, "Worked rows", the whole listing of a room): a line for the room and one for each object in OBCD order,
 -- or the one line of its refusal.
-use Rattle.std.specs.Prelude.{ℕ, zero, suc, ◌+◌, ◌*◌, cond, List, [], ◌∷◌, ◌++◌, ltb, ℤ, length}
+use Rattle.std.specs.Prelude.{ℕ, zero, suc, ◌*◌, cond, List, [], ◌∷◌, ◌++◌, ltb, ℤ, length}
 use Rattle.number.specs.Buffer.{over}
 use Rattle.block.specs.declared.Found.{Found}
 use Rattle.block.specs.declared.Found.TheVariants as found

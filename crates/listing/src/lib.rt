@@ -1,5 +1,7 @@
 // The listing of a room as text in a lent buffer: a line for the room, and one for each object in OBCD order; or `refused N` (document 01,
 // "Worked rows", the whole listing of a room).
+#![tactic(auto)]
+
 pub mod line;
 pub mod put;
 
@@ -22,9 +24,9 @@ pub fn buffer() -> [u8; 8192]
 
 // The whole listing of a room, at the front of `out`: how many bytes it has. A buffer shorter than SIZE gets none, and the answer is 0.
 pub fn list(room: &[u8], out: &mut [u8]) -> usize
-    ensures upper_bound { (result ≤ length out.new) × (result ≡ length (take result out.new)) }
-    ensures value { result ≡ written_count (listing_of room.now) out.old }
-    ensures out_after { out.new ≡ written_over (listing_of room.now) out.old }
+    ensures count_fits { (result ≤ length out.new) × (result ≡ length (take result out.new)) }
+    ensures count { result ≡ written_count (listing_of room.now) out.old }
+    ensures text_after { out.new ≡ written_over (listing_of room.now) out.old }
 {
     if out.len() < SIZE {
         return 0;
@@ -40,9 +42,9 @@ pub fn list(room: &[u8], out: &mut [u8]) -> usize
 
 // The line of the refusal `number`, with the same answer.
 pub fn refused(number: u8, out: &mut [u8]) -> usize
-    ensures upper_bound { (result ≤ length out.new) × (result ≡ length (take result out.new)) }
-    ensures value { result ≡ written_count (refused_line number) out.old }
-    ensures out_after { out.new ≡ written_over (refused_line number) out.old }
+    ensures count_fits { (result ≤ length out.new) × (result ≡ length (take result out.new)) }
+    ensures count { result ≡ written_count (refused_line number) out.old }
+    ensures text_after { out.new ≡ written_over (refused_line number) out.old }
 {
     if out.len() < SIZE {
         return 0;

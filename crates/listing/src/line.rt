@@ -25,8 +25,8 @@ pub fn room_line(out: &mut [u8], at: usize, r: Room) -> usize
 
 // The box of an object, in pixels.
 fn box_part(out: &mut [u8], at: usize, h: Cdhd) -> usize
-    requires h_in_bounds { at + length (box_part h) ≤ length out.old }
-    requires x_bound { (h.x ≤ 255) × (h.y ≤ 255) × (h.width ≤ 255) × (h.height ≤ 255) }
+    requires text_fits { at + length (box_part h) ≤ length out.old }
+    requires box_of_bytes { (h.x ≤ 255) × (h.y ≤ 255) × (h.width ≤ 255) × (h.height ≤ 255) }
     ensures { Put (box_part h) out.old out.new at result }
 {
     let x = number(out, at, b" box ", h.x * 8);
@@ -46,8 +46,8 @@ fn walk_part(out: &mut [u8], at: usize, h: Cdhd) -> usize
 
 // The line of object k, whose CDHD says h.
 fn object_line(out: &mut [u8], at: usize, k: usize, h: Cdhd) -> usize
-    requires h_in_bounds { at + length (object_line k h) ≤ length out.old }
-    requires x_bound { (h.x ≤ 255) × (h.y ≤ 255) × (h.width ≤ 255) × (h.height ≤ 255) }
+    requires text_fits { at + length (object_line k h) ≤ length out.old }
+    requires box_of_bytes { (h.x ≤ 255) × (h.y ≤ 255) × (h.width ≤ 255) × (h.height ≤ 255) }
     ensures { Put (object_line k h) out.old out.new at result }
 {
     let object = number(out, at, b"object ", k);

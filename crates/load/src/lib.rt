@@ -1,4 +1,6 @@
 // The load of a room into lent pixels, masks and session (document 01, "What the bench and the player do").
+#![tactic(auto)]
+
 pub mod paint;
 
 ghost use Rattle.std.specs.Prelude.{◌≡◌, ◌*◌, ◌≤◌, length};
@@ -28,8 +30,8 @@ pub fn empty_session(session: &mut [u8])
 // Paints the background of a room that passes the test.
 fn load_pixels(room: &[u8], r: Room, pixels: &mut [u8])
     requires sound { Sound room.now r }
-    requires r_value { pictures_test room.now r ≡ Passed }
-    requires height_in_bounds { r.width * r.height ≤ length pixels.old }
+    requires pictures_pass { pictures_test room.now r ≡ Passed }
+    requires pixels_fit { r.width * r.height ≤ length pixels.old }
     ensures { pixels.new ≡ loaded_pixels room.now r pixels.old }
 {
     let strips = r.width / 8;
@@ -38,9 +40,9 @@ fn load_pixels(room: &[u8], r: Room, pixels: &mut [u8])
 
 // Paints plane k, or clears it where it is missing.
 fn load_plane(room: &[u8], r: Room, k: usize, masks: &mut [u8])
-    requires sound { Sound room.now r × (1 ≤ k) × (k ≤ r.planes) }
-    requires k_value { plane_test (strips r) r.height room.now r.image r.image_end k ≡ Passed }
-    requires height_in_bounds { strips r * (r.planes * r.height) ≤ length masks.old }
+    requires plane_of_room { Sound room.now r × (1 ≤ k) × (k ≤ r.planes) }
+    requires plane_passes { plane_test (strips r) r.height room.now r.image r.image_end k ≡ Passed }
+    requires masks_fit { strips r * (r.planes * r.height) ≤ length masks.old }
     ensures { masks.new ≡ loaded_plane room.now r k masks.old }
 {
     let strips = r.width / 8;
@@ -57,8 +59,8 @@ fn load_plane(room: &[u8], r: Room, k: usize, masks: &mut [u8])
 // Paints planes 1 to N.
 fn load_masks(room: &[u8], r: Room, masks: &mut [u8])
     requires sound { Sound room.now r }
-    requires r_value { pictures_test room.now r ≡ Passed }
-    requires height_in_bounds { strips r * (r.planes * r.height) ≤ length masks.old }
+    requires pictures_pass { pictures_test room.now r ≡ Passed }
+    requires masks_fit { strips r * (r.planes * r.height) ≤ length masks.old }
     ensures { masks.new ≡ loaded_masks room.now r masks.old }
 {
     let planes = r.planes;
@@ -71,7 +73,7 @@ fn load_masks(room: &[u8], r: Room, masks: &mut [u8])
 
 // Loads a room: 0, or the number of the refusal.
 pub fn load(room: &[u8], session: &mut [u8], pixels: &mut [u8], masks: &mut [u8]) -> u32
-    ensures value { result ≡ number_of (load_test room.now session.old pixels.old masks.old) }
+    ensures number { result ≡ number_of (load_test room.now session.old pixels.old masks.old) }
     ensures session_after { session.new
         ≡ session_after (load_test room.now session.old pixels.old masks.old)
         session.old }

@@ -16,10 +16,10 @@ use plane::{Rows, rows_at};
 
 // Strip k of an SMAP block at column 8k of the pixels, over its full height. No pixel of a background is transparent.
 pub fn paint_strip(room: &[u8], n: usize, h: usize, b: usize, z: usize, k: usize, pixels: &mut [u8])
-    requires k_lt_n { (k < n) × (n ≤ 128) × (h ≤ 200) × (b ≤ z) × (z ≤ length room.now) }
-    requires z_value { table_right false n room.now b z ≡ true }
-    requires k_value { strip_test false n h room.now b z k ≡ Passed }
-    requires h_in_bounds { 8 * n * h ≤ length pixels.old }
+    requires strip_in_block { (k < n) × (n ≤ 128) × (h ≤ 200) × (b ≤ z) × (z ≤ length room.now) }
+    requires table_right { table_right false n room.now b z ≡ true }
+    requires strip_passes { strip_test false n h room.now b z k ≡ Passed }
+    requires pixels_fit { 8 * n * h ≤ length pixels.old }
     ensures { pixels.new
         ≡ upd (boxed (8 * n) (8 * k) 0 8 h (λ c r o. pixel_at n h room.now b z (8 * k + c) r)) pixels.old }
 {
@@ -55,10 +55,10 @@ fn paint_two(
     right: &mut [u8],
     pixels: &mut [u8],
 )
-    requires k_bound { (k + 1 < n) × (n ≤ 128) × (h ≤ 200) × (b ≤ z) × (z ≤ length room.now) }
-    requires z_value { table_right false n room.now b z ≡ true }
-    requires k_value { (strip_test false n h room.now b z k ≡ Passed) × (strip_test false n h room.now b z (k + 1) ≡ Passed) }
-    requires h_in_bounds { (8 * h ≤ length left.old) × (8 * h ≤ length right.old) × (8 * n * h ≤ length pixels.old) }
+    requires strips_in_block { (k + 1 < n) × (n ≤ 128) × (h ≤ 200) × (b ≤ z) × (z ≤ length room.now) }
+    requires table_right { table_right false n room.now b z ≡ true }
+    requires strips_pass { (strip_test false n h room.now b z k ≡ Passed) × (strip_test false n h room.now b z (k + 1) ≡ Passed) }
+    requires buffers_fit { (8 * h ≤ length left.old) × (8 * h ≤ length right.old) × (8 * n * h ≤ length pixels.old) }
     ensures { pixels.new
         ≡ upd (boxed (8 * n) (8 * k) 0 16 h (λ c r o. pixel_at n h room.now b z (8 * k + c) r)) pixels.old }
 {
@@ -69,9 +69,9 @@ fn paint_two(
 
 // Every strip of an SMAP block, two by two.
 pub fn paint_background(room: &[u8], n: usize, h: usize, b: usize, z: usize, pixels: &mut [u8])
-    requires n_bound { (n ≤ 128) × (h ≤ 200) × (b ≤ z) × (z ≤ length room.now) }
-    requires z_value { block_test false n h room.now b z ≡ Passed }
-    requires h_in_bounds { 8 * n * h ≤ length pixels.old }
+    requires block_in_room { (n ≤ 128) × (h ≤ 200) × (b ≤ z) × (z ≤ length room.now) }
+    requires block_passes { block_test false n h room.now b z ≡ Passed }
+    requires pixels_fit { 8 * n * h ≤ length pixels.old }
     ensures { pixels.new
         ≡ upd (boxed (8 * n) 0 0 (8 * n) h (λ x y o. pixel_at n h room.now b z x y)) pixels.old }
 {
@@ -97,8 +97,8 @@ fn join_body(
     k: usize,
     masks: &mut [u8],
 )
-    requires literals_value { rows_test (rows_of body.now h (literals 0)) ≡ Passed }
-    requires plane { Plane (length masks.old) n h planes plane k 0 h }
+    requires body_passes { rows_test (rows_of body.now h (literals 0)) ≡ Passed }
+    requires in_plane { Plane (length masks.old) n h planes plane k 0 h }
     ensures { masks.new
         ≡ upd (boxed n k ((plane - 1) * h) 1 h (rows_over (row_values (rows_of body.now h (literals 0))) false)) masks.old }
 {
@@ -136,10 +136,10 @@ fn join_strip(
     k: usize,
     masks: &mut [u8],
 )
-    requires k_lt_n { (k < n) × (n ≤ 128) × (h ≤ 200) × (b ≤ z) × (z ≤ length room.now) }
-    requires z_value { table_right true n room.now b z ≡ true }
-    requires k_value { strip_test true n h room.now b z k ≡ Passed }
-    requires planes_bound { (planes ≤ 4) × (1 ≤ plane) × (plane ≤ planes) × (n * (planes * h) ≤ length masks.old) }
+    requires strip_in_block { (k < n) × (n ≤ 128) × (h ≤ 200) × (b ≤ z) × (z ≤ length room.now) }
+    requires table_right { table_right true n room.now b z ≡ true }
+    requires strip_passes { strip_test true n h room.now b z k ≡ Passed }
+    requires masks_fit { (planes ≤ 4) × (1 ≤ plane) × (plane ≤ planes) × (n * (planes * h) ≤ length masks.old) }
     ensures { masks.new
         ≡ upd (boxed n k ((plane - 1) * h) 1 h (λ c r o. mask_over false (mask_at n h room.now b z k r) o)) masks.old }
 {
@@ -167,9 +167,9 @@ pub fn paint_plane(
     plane: usize,
     masks: &mut [u8],
 )
-    requires n_bound { (n ≤ 128) × (h ≤ 200) × (b ≤ z) × (z ≤ length room.now) }
-    requires z_value { block_test true n h room.now b z ≡ Passed }
-    requires planes_bound { (planes ≤ 4) × (1 ≤ plane) × (plane ≤ planes) × (n * (planes * h) ≤ length masks.old) }
+    requires block_in_room { (n ≤ 128) × (h ≤ 200) × (b ≤ z) × (z ≤ length room.now) }
+    requires block_passes { block_test true n h room.now b z ≡ Passed }
+    requires masks_fit { (planes ≤ 4) × (1 ≤ plane) × (plane ≤ planes) × (n * (planes * h) ≤ length masks.old) }
     ensures { masks.new
         ≡ upd (boxed n 0 ((plane - 1) * h) n h (λ s y o. mask_at n h room.now b z s y)) masks.old }
 {

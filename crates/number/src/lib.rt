@@ -1,4 +1,6 @@
 // Numbers in a slice of bytes (document 01: u16 and u32 little-endian, block sizes big-endian, walk points signed): loads and stores of them.
+#![tactic(auto)]
+
 pub mod buffer;
 
 ghost use Rattle.std.specs.Prelude.{◌≡◌, ◌+◌, ◌≤◌, ◌<◌, length};

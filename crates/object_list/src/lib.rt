@@ -1,5 +1,7 @@
 // A room's listing in one test: its record, and for each object a row with its header, where its name stands and which of its states can be drawn
 // (docs/LAYOUTS.md). The objects' blocks are walked once, and their images are asked of crate image's table.
+#![tactic(auto)]
+
 pub mod row;
 pub mod states;
 
@@ -55,8 +57,8 @@ fn list_rows(room: &[u8], objects: usize, rows: &mut [u8])
 
 // The listing of a room, its record into `out`: 0, or the number of the refusal.
 pub fn list(room: &[u8], out: &mut [u8], rows: &mut [u8]) -> u32
-    ensures value { result ≡ number_of (list_test room.now out.old rows.old) }
-    ensures out_after { out.new
+    ensures number { result ≡ number_of (list_test room.now out.old rows.old) }
+    ensures record_after { out.new
         ≡ record_after (list_test room.now out.old rows.old) out.old }
     ensures rows_after { rows.new
         ≡ rows_after room.now (list_test room.now out.old rows.old) rows.old }

@@ -1,11 +1,13 @@
 // A room's record, and its objects: their headers and names (document 01, "Blocks"; docs/LAYOUTS.md). Each call starts with the whole test
 // of crate room.
+#![tactic(auto)]
+
 pub mod name;
 pub mod object;
 pub mod record;
 
 // What an object's CDHD says. Place and sizes are in strips of 8 pixels; the walk point is in pixels.
-#[derive(Drop)]
+#[derive(Clone, Copy)]
 pub struct Cdhd {
     pub id: usize,
     pub x: usize,
@@ -20,21 +22,21 @@ pub struct Cdhd {
 }
 
 // A part of the room: its first byte, and how many bytes it has.
-#[derive(Drop)]
+#[derive(Clone, Copy)]
 pub struct Part {
     pub start: usize,
     pub count: usize,
 }
 
 // The OBCD of the object that a call names, or the number of the refusal.
-#[derive(Drop)]
+#[derive(Clone, Copy)]
 pub enum Chosen {
     Block(usize, usize),
     Refused(u8),
 }
 
 // Where an object's CDHD payload stands, or the number of the refusal.
-#[derive(Drop)]
+#[derive(Clone, Copy)]
 pub enum Place {
     At(usize),
     Refused(u8),

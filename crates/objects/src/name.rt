@@ -53,8 +53,8 @@ pub fn part_in(s: &[u8], b: usize, z: usize) -> Part
 
 // The part that is the name of object `object`, counted from 1; empty where there is none or the call is refused.
 fn name_part(s: &[u8], object: u32) -> Part
-    ensures value { result ≡ part_at (name_place s.now object) }
-    ensures count_in_bounds { (result.start + result.count ≤ length s.now) × (result.start + result.count ≤ 1048576) }
+    ensures part { result ≡ part_at (name_place s.now object) }
+    ensures in_room { (result.start + result.count ≤ length s.now) × (result.start + result.count ≤ 1048576) }
 {
     match chosen_block(s, nothing_lent(), object as usize) {
         Chosen::Block(b, z) => part_in(s, b, z),

@@ -110,8 +110,8 @@ pub fn header_bytes(s: &[u8], p: usize) -> [u8; 16]
 
 // The header of object `object` into a lent buffer: 0, or the number of the refusal.
 pub fn header_record(s: &[u8], out: &mut [u8], object: u32) -> u32
-    ensures value { result ≡ place_number (header_call s.now out.old object) }
-    ensures out_after { out.new
+    ensures number { result ≡ place_number (header_call s.now out.old object) }
+    ensures header_after { out.new
         ≡ header_after s.now (header_call s.now out.old object) out.old }
 {
     match header_place(s, fixed_lent(16, out.len()), object as usize) {

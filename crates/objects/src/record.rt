@@ -48,8 +48,8 @@ pub fn record_bytes(r: Room) -> [u8; 16]
 
 // The record of a room: 0, or the number of the refusal.
 pub fn record(s: &[u8], out: &mut [u8]) -> u32
-    ensures value { result ≡ number_of (record_test s.now out.old) }
-    ensures out_after { out.new ≡ record_after (record_test s.now out.old) out.old }
+    ensures number { result ≡ number_of (record_test s.now out.old) }
+    ensures record_after { out.new ≡ record_after (record_test s.now out.old) out.old }
 {
     match test_room(s, fixed_lent(16, out.len())) {
         Tested::Right(r) => {

@@ -1,4 +1,6 @@
 // One strip of a mask plane: a body to its rows, or the number of its refusal (document 01, "Strips of masks").
+#![tactic(auto)]
+
 ghost use Rattle.std.specs.Prelude.{◌≡◌, ◌+◌, ◌≤◌, length};
 ghost use Rattle.strip.specs.Strip.{made_of, Filled};
 ghost use Rattle.plane.specs.Mask.{rows_of, literals, RowsAt};
@@ -7,7 +9,7 @@ use number::buffer::{copy, fill};
 use strip::Made;
 
 // What the operation at a place asks: so many literal rows, so many copies of one byte, or a refusal. Its data starts at the byte after it.
-#[derive(Drop)]
+#[derive(Clone, Copy)]
 pub enum Rows {
     Literals(usize),
     Copies(usize),

@@ -12,9 +12,9 @@ use stored::SESSION_SIZE;
 
 // A draw, a hide or a take-back: its number.
 pub fn call(room: &[u8], session: &mut [u8], pixels: &mut [u8], masks: &mut [u8], call: Call) -> u32
-    ensures value { result
+    ensures number { result
         ≡ number_of room.now (lent session.old pixels.old masks.old) call }
-    ensures masks_after { lent session.new pixels.new masks.new
+    ensures lent_after { lent session.new pixels.new masks.new
         ≡ after_call room.now (lent session.old pixels.old masks.old) call }
 {
     let lent = surfaces_lent(SESSION_SIZE, session.len(), pixels.len(), masks.len());

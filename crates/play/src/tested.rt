@@ -27,11 +27,11 @@ pub fn call_tested(
     masks: &mut [u8],
     call: Call,
 ) -> u32
-    requires ready { Ready room.now r table.now × (r.objects ≡ object_count room.now) × (session_size ≤ length session.old) }
-    requires height_in_bounds { (r.width * r.height ≤ length pixels.old) × (strips r * (r.planes * r.height) ≤ length masks.old) }
-    ensures value { result
+    requires ready_with_session { Ready room.now r table.now × (r.objects ≡ object_count room.now) × (session_size ≤ length session.old) }
+    requires surfaces_fit { (r.width * r.height ≤ length pixels.old) × (strips r * (r.planes * r.height) ≤ length masks.old) }
+    ensures number { result
         ≡ number_by room.now (lent session.old pixels.old masks.old) call (Right r) }
-    ensures masks_after { lent session.new pixels.new masks.new
+    ensures lent_after { lent session.new pixels.new masks.new
         ≡ after_by room.now (lent session.old pixels.old masks.old) call (Right r) }
 {
     let mut verdicts = [0u8; VERDICTS_LENGTH];

@@ -33,8 +33,8 @@ fn seek(
     x: usize,
     y: usize,
 ) -> u32
-    requires count_value { (size.count ≡ object_count room.now) × Sizes size × (size.count ≤ length flags.now) }
-    requires places_length_in_bounds { (places_length ≤ length places.now) × (shown.n ≤ most_shown) }
+    requires size_right { (size.count ≡ object_count room.now) × Sizes size × (size.count ≤ length flags.now) }
+    requires places_fit { (places_length ≤ length places.now) × (shown.n ≤ most_shown) }
     ensures { result ≡ object_at (objects_of room.now) (scene_in places.now (entries shown)) flags.now x y }
 {
     let mut boxes = [0u32; OBJECTS_LENGTH];
@@ -56,7 +56,7 @@ fn answer(o: u32) -> Pointed
 // The question on a room that passes its test.
 fn ask(room: &[u8], r: Room, table: &[u32], session: &[u8], flags: &[u8], x: u32, y: u32) -> Pointed
     requires ready { Ready room.now r table.now × (r.objects ≡ object_count room.now) }
-    requires session_size_in_bounds { (session_size ≤ length session.now) × (r.objects ≤ length flags.now) }
+    requires session_and_flags_fit { (session_size ≤ length session.now) × (r.objects ≤ length flags.now) }
     ensures { result ≡ asked room.now r session.now flags.now x y }
 {
     let mut verdicts = [0u8; VERDICTS_LENGTH];

@@ -1,10 +1,12 @@
 // The object under a point (document 01, "Actors, points, limbs"): its box, its lent flag byte and the chain of its containers, which crate climb
 // climbs.
+#![tactic(auto)]
+
 pub mod call;
 pub mod hit;
 
 // The answer: an object's number, no object, or the number of the refusal.
-#[derive(Drop)]
+#[derive(Clone, Copy)]
 pub enum Pointed {
     Object(u32),
     Nothing,

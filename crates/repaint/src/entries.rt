@@ -22,8 +22,8 @@ fn entry_strip(
     pixels: &mut [u8],
     masks: &mut [u8],
 )
-    requires ready { Ready room.now r table.now × Paintable room.now r e × (k < strips r) }
-    requires height_in_bounds { (r.width * r.height ≤ length pixels.old) × (strips r * (r.planes * r.height) ≤ length masks.old) }
+    requires entry_ready { Ready room.now r table.now × Paintable room.now r e × (k < strips r) }
+    requires surfaces_fit { (r.width * r.height ≤ length pixels.old) × (strips r * (r.planes * r.height) ≤ length masks.old) }
     ensures pixels_after { pixels.new
         ≡ upd (over_byte (pixel_layout (decoded room.now r)) (e ∷ []) k) pixels.old }
     ensures masks_after { masks.new
@@ -49,8 +49,8 @@ pub fn entries_strip(
     pixels: &mut [u8],
     masks: &mut [u8],
 )
-    requires ready { Ready room.now r table.now × Listed room.now r shown.now n × (k < strips r) }
-    requires height_in_bounds { (r.width * r.height ≤ length pixels.old) × (strips r * (r.planes * r.height) ≤ length masks.old) }
+    requires entries_ready { Ready room.now r table.now × Listed room.now r shown.now n × (k < strips r) }
+    requires surfaces_fit { (r.width * r.height ≤ length pixels.old) × (strips r * (r.planes * r.height) ≤ length masks.old) }
     ensures pixels_after { pixels.new
         ≡ upd (over_byte (pixel_layout (decoded room.now r)) (entries_of shown.now n) k) pixels.old }
     ensures masks_after { masks.new

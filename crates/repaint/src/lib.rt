@@ -1,6 +1,8 @@
 // Strips of lent surfaces rebuilt over their full height from the room's bytes and a shown list (document 01, "Sessions", "Painting
 // afresh"). The room passes its test, and each entry of the list could be drawn (crate layers, specs/Ready.antt). A shown list is lent as
 // numbers, four for each entry: object, state, x, y. Strip k of the pixels and of the masks is rebuilt together.
+#![tactic(auto)]
+
 pub mod entries;
 pub mod picture;
 
@@ -25,8 +27,8 @@ fn rebuild_strip(
     pixels: &mut [u8],
     masks: &mut [u8],
 )
-    requires ready { Ready room.now r table.now × Listed room.now r shown.now n × (k < strips r) }
-    requires height_in_bounds { (r.width * r.height ≤ length pixels.old) × (strips r * (r.planes * r.height) ≤ length masks.old) }
+    requires entries_ready { Ready room.now r table.now × Listed room.now r shown.now n × (k < strips r) }
+    requires surfaces_fit { (r.width * r.height ≤ length pixels.old) × (strips r * (r.planes * r.height) ≤ length masks.old) }
     ensures pixels_after { pixels.new
         ≡ rebuilt_bytes (pixel_layout (decoded room.now r)) (entries_of shown.now n) (λ t. eqb t k) pixels.old }
     ensures masks_after { masks.new
@@ -47,8 +49,8 @@ pub fn rebuild(
     pixels: &mut [u8],
     masks: &mut [u8],
 )
-    requires ready { Ready room.now r table.now × Listed room.now r shown.now n × (strips r ≤ length touched.now) }
-    requires height_in_bounds { (r.width * r.height ≤ length pixels.old) × (strips r * (r.planes * r.height) ≤ length masks.old) }
+    requires entries_ready { Ready room.now r table.now × Listed room.now r shown.now n × (strips r ≤ length touched.now) }
+    requires surfaces_fit { (r.width * r.height ≤ length pixels.old) × (strips r * (r.planes * r.height) ≤ length masks.old) }
     ensures pixels_after { pixels.new
         ≡ rebuilt_bytes (pixel_layout (decoded room.now r)) (entries_of shown.now n)
         (λ t. not (eqb (get_or touched.now t 0) 0)) pixels.old }

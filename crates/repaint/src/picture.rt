@@ -25,9 +25,9 @@ pub fn put_strip(
     y: usize,
     pixels: &mut [u8],
 ) -> bool
-    requires sound { Sound room.now r × Readable room.now m × (j < m.strips) }
-    requires k_bound { (k < strips r) × (y + m.height ≤ r.height) × (r.width * r.height ≤ length pixels.old) }
-    ensures value { result ≡ picture_opaque r.clear (strip_in room.now m j) (8 * m.height) }
+    requires readable { Sound room.now r × Readable room.now m × (j < m.strips) }
+    requires in_pixels { (k < strips r) × (y + m.height ≤ r.height) × (r.width * r.height ≤ length pixels.old) }
+    ensures is_opaque { result ≡ picture_opaque r.clear (strip_in room.now m j) (8 * m.height) }
     ensures pixels_after { pixels.new
         ≡ upd (boxed r.width (8 * k) y 8 m.height (λ c q o. picture_over r.clear (strip_in room.now m j) (8 * q + c) o))
         pixels.old }
@@ -57,9 +57,9 @@ fn put_plane(
     replace: bool,
     masks: &mut [u8],
 )
-    requires sound { Sound room.now r × Readable room.now m × (j < m.strips) }
+    requires readable { Sound room.now r × Readable room.now m × (j < m.strips) }
     requires plane_passes { PlanePasses room.now m p × (1 ≤ p) × (p ≤ r.planes) }
-    requires k_bound { (k < strips r) × (y + m.height ≤ r.height) × (strips r * (r.planes * r.height) ≤ length masks.old) }
+    requires in_masks { (k < strips r) × (y + m.height ≤ r.height) × (strips r * (r.planes * r.height) ≤ length masks.old) }
     ensures { masks.new
         ≡ upd (boxed (strips r) k ((p - 1) * r.height + y) 1 m.height (λ c q o. mask_over replace (mask_in room.now m p j q) o))
         masks.old }
@@ -91,9 +91,9 @@ pub fn put_planes(
     replace: bool,
     masks: &mut [u8],
 )
-    requires sound { Sound room.now r × Readable room.now m × (j < m.strips) }
-    requires by_index { (p : ℕ) → 1 ≤ p → p ≤ r.planes → PlanePasses room.now m p }
-    requires k_bound { (k < strips r) × (y + m.height ≤ r.height) × (strips r * (r.planes * r.height) ≤ length masks.old) }
+    requires readable { Sound room.now r × Readable room.now m × (j < m.strips) }
+    requires planes_pass { (p : ℕ) → 1 ≤ p → p ≤ r.planes → PlanePasses room.now m p }
+    requires in_masks { (k < strips r) × (y + m.height ≤ r.height) × (strips r * (r.planes * r.height) ≤ length masks.old) }
     ensures { masks.new
         ≡ upd (planes_byte room.now m j (strips r) r.height r.planes k y replace) masks.old }
 {
@@ -107,8 +107,8 @@ pub fn put_planes(
 
 // The room's own strip k: its background, and its planes in the place of what the masks held.
 pub fn room_strip(room: &[u8], r: Room, k: usize, pixels: &mut [u8], masks: &mut [u8])
-    requires sound { Sound room.now r × (pictures_test room.now r ≡ Passed) × (k < strips r) }
-    requires height_in_bounds { (r.width * r.height ≤ length pixels.old) × (strips r * (r.planes * r.height) ≤ length masks.old) }
+    requires pictures_pass { Sound room.now r × (pictures_test room.now r ≡ Passed) × (k < strips r) }
+    requires surfaces_fit { (r.width * r.height ≤ length pixels.old) × (strips r * (r.planes * r.height) ≤ length masks.old) }
     ensures pixels_after { pixels.new
         ≡ rebuilt_bytes (pixel_layout (decoded room.now r)) [] (λ t. eqb t k) pixels.old }
     ensures masks_after { masks.new

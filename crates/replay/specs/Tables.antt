@@ -57,7 +57,8 @@ Sizes size = (size.strips ≤ 128) × (size.height ≤ 200) × (size.count ≤ 1
 
 -- what is asked of lent bytes and gathered numbers before a session is read by them
 abbrev pub LongEnough : (session objects verdicts : List ℕ) → Size → Type 0
-LongEnough session objects verdicts size = (session_size ≤ length session) × (objects_length ≤ length objects) × (verdicts_length ≤ length verdicts) × Sizes size
+LongEnough session objects verdicts size =
+    (session_size ≤ length session) × (objects_length ≤ length objects) × (verdicts_length ≤ length verdicts) × Sizes size
 
 -- a step draws the object o in the state s; a step of the list does
 unfoldable pub draws : Step → ℕ → ℕ → Bool

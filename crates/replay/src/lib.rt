@@ -1,5 +1,7 @@
 // A session's history replayed (document 01, "Sessions"): one step on a shown list, and all steps, from the numbers that a caller has
 // gathered of the room's objects. No pixel and no room byte is looked at here.
+#![tactic(auto)]
+
 pub mod history;
 pub mod list;
 pub mod places;
@@ -13,7 +15,7 @@ pub const VERDICTS_LENGTH: usize = 1290;
 pub const PLACES_LENGTH: usize = 387;
 
 // The room: its width in strips, its height in pixels, its count of objects.
-#[derive(Drop)]
+#[derive(Clone, Copy)]
 pub struct Size {
     pub strips: usize,
     pub height: usize,
@@ -21,7 +23,7 @@ pub struct Size {
 }
 
 // A place in pixels, and whether a strip position set it.
-#[derive(Drop)]
+#[derive(Clone, Copy)]
 pub struct Spot {
     pub x: usize,
     pub y: usize,

@@ -33,8 +33,8 @@ pub fn place_of(places: &[u32], object: u32) -> Spot
 // Where a draw of the object at the place puts it.
 pub fn spot_of(places: &[u32], object: u32, place: Place) -> Spot
     requires { places_length ≤ length places.now }
-    ensures at { (es : List Entry) → IsAt result (steps.spot_of (scene_in places.now es) object place) }
-    ensures x_bound { NearPlace place → (result.x < 4294967296) × (result.y < 4294967296) }
+    ensures spot { (es : List Entry) → IsAt result (steps.spot_of (scene_in places.now es) object place) }
+    ensures stays_near { NearPlace place → (result.x < 4294967296) × (result.y < 4294967296) }
 {
     match place {
         Place::Last => place_of(places, object),

@@ -83,8 +83,8 @@ fn index_in(s: &[u8], trns: Found) -> u8
 
 // What RMHD, RMIH and TRNS say, with the OBCD blocks counted.
 fn room_of(s: &[u8], p: Parts, trns: Found) -> Room
-    requires header_in_bounds { (p.header + 6 ≤ length s.now) × (p.image_header + 2 ≤ length s.now) }
-    requires trns_value { (trns ≡ trns_in s.now) × (holds_index trns ≡ true) }
+    requires headers_inside { (p.header + 6 ≤ length s.now) × (p.image_header + 2 ≤ length s.now) }
+    requires trns_found { (trns ≡ trns_in s.now) × (holds_index trns ≡ true) }
     ensures { result ≡ room_of s.now p }
 {
     let header = p.header;

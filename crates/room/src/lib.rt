@@ -1,11 +1,13 @@
 // Rooms: what a room must hold, and its whole test (document 01, "Sizes", "Numbered refusals", "Blocks"). The record and the objects'
 // headers and names are crate objects.
+#![tactic(auto)]
+
 pub mod head;
 pub mod picture;
 pub mod test;
 
 // Where the needed blocks stand: the payloads of RMHD, RMIH and IM00, and the SMAP block with its header.
-#[derive(Drop)]
+#[derive(Clone, Copy)]
 pub struct Parts {
     pub header: usize,
     pub image_header: usize,
@@ -16,20 +18,20 @@ pub struct Parts {
 }
 
 // Where a header's payload starts, and the payload of the block beside it.
-#[derive(Drop)]
+#[derive(Clone, Copy)]
 pub enum Headed {
     Both(usize, usize, usize),
     Missing,
 }
 
-#[derive(Drop)]
+#[derive(Clone, Copy)]
 pub enum Needed {
     All(Parts),
     Missing,
 }
 
 // A room's sizes, its transparent index, and where its picture stands: IM00's payload, and the SMAP block with its header.
-#[derive(Drop)]
+#[derive(Clone, Copy)]
 pub struct Room {
     pub width: usize,
     pub height: usize,
@@ -43,14 +45,14 @@ pub struct Room {
 }
 
 // What a test of a room finds.
-#[derive(Drop)]
+#[derive(Clone, Copy)]
 pub enum Tested {
     Right(Room),
     Refused(u8),
 }
 
 // The lengths of what a call is lent besides the room. `fixed_short`: a record, a session or a header is shorter than its fixed size.
-#[derive(Drop)]
+#[derive(Clone, Copy)]
 pub struct Lent {
     pub fixed_short: bool,
     pub has_surfaces: bool,

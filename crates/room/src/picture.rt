@@ -57,8 +57,8 @@ pub fn test_im(
     h: usize,
     planes: usize,
 ) -> Test
-    requires n_bound { (n ≤ 128) × (h ≤ 200) × (planes ≤ 4) × (z ≤ length room.now) }
-    requires smap_le_end { (smap ≤ end) × (end ≤ length room.now) }
+    requires sizes_allowed { (n ≤ 128) × (h ≤ 200) × (planes ≤ 4) × (z ≤ length room.now) }
+    requires smap_in_room { (smap ≤ end) × (end ≤ length room.now) }
     ensures { result ≡ smap_and_planes_test planes n h room.now b z smap end }
 {
     match test_block(room, false, n, h, smap, end) {

@@ -2,31 +2,33 @@
 // and sessions over a room that is decoded already, and demand 3 over every list of calls; see specs/ and proofs/Demand3.antt.
 
 // The most steps of a history (document 01, "Sizes").
+#![tactic(auto)]
+
 pub const MOST_STEPS: usize = 64;
 
 // Where a draw puts an object: where it last was, or at strip position (a, b), which is pixel (8a, 8b).
-#[derive(Drop)]
+#[derive(Clone, Copy)]
 pub enum Place {
     Last,
     Strip(u32, u32),
 }
 
 // A step of the history. Draw: object, state, place. Hide: object.
-#[derive(Drop)]
+#[derive(Clone, Copy)]
 pub enum Step {
     Draw(u32, u32, Place),
     Hide(u32),
 }
 
 // A call on a session: it makes a step, or takes the newest one back.
-#[derive(Drop)]
+#[derive(Clone, Copy)]
 pub enum Call {
     Make(Step),
     TakeBack,
 }
 
 // An entry of the shown list: an object in a state, its image's upper left corner at pixel (x, y).
-#[derive(Drop)]
+#[derive(Clone, Copy)]
 pub struct Entry {
     pub object: u32,
     pub state: u32,

@@ -24,7 +24,7 @@ pub fn valid_shown(
     places: &mut [u32],
 ) -> Shown
     requires long_enough { LongEnough session.now objects.now verdicts.now size }
-    requires places_length_in_bounds { places_length ≤ length places.old }
+    requires places_fit { places_length ≤ length places.old }
     ensures { ValidList (room_of_tables objects.now verdicts.now size) session.now places.new result }
 {
     let n = count(session[0]);
@@ -52,10 +52,10 @@ fn plan_on(
     step: Step,
 ) -> Shown
     requires long_enough { LongEnough session.now objects.now verdicts.now size }
-    requires places_length_in_bounds { places_length ≤ length places.now }
+    requires places_fit { places_length ≤ length places.now }
     requires valid_list { ValidList (room_of_tables objects.now verdicts.now size) session.now places.now s }
-    ensures result_value { plan_of result ≡ planned (room_of_tables objects.now verdicts.now size) session.now (Make step) }
-    ensures n_le_most_shown { result.n ≤ most_shown }
+    ensures plan { plan_of result ≡ planned (room_of_tables objects.now verdicts.now size) session.now (Make step) }
+    ensures few_shown { result.n ≤ most_shown }
 {
     if s.refusal != 0 {
         return s;
@@ -76,9 +76,9 @@ fn plan_back(
     places: &mut [u32],
 ) -> Shown
     requires long_enough { LongEnough session.now objects.now verdicts.now size }
-    requires places_length_in_bounds { places_length ≤ length places.old }
-    ensures result_value { plan_of result ≡ planned (room_of_tables objects.now verdicts.now size) session.now TakeBack }
-    ensures n_le_most_shown { (result.n ≤ most_shown) × (result.refusal ≡ 0 → (get_or session.now 0 0 ≤ most_steps) × (result.n < get_or session.now 0 0)) }
+    requires places_fit { places_length ≤ length places.old }
+    ensures plan { plan_of result ≡ planned (room_of_tables objects.now verdicts.now size) session.now TakeBack }
+    ensures few_shown { (result.n ≤ most_shown) × (result.refusal ≡ 0 → (get_or session.now 0 0 ≤ most_steps) × (result.n < get_or session.now 0 0)) }
     ensures last_places { result.refusal ≡ 0 → LastPlaces (room_of_tables objects.now verdicts.now size) session.now
         (get_or session.now 0 0 - 1) places.new }
 {
@@ -104,7 +104,7 @@ fn plan_step(
     places: &mut [u32],
 ) -> Shown
     requires long_enough { LongEnough session.now objects.now verdicts.now size }
-    requires in_bounds { (128 ≤ length strips.old) × (places_length ≤ length places.old) }
+    requires strips_and_places_fit { (128 ≤ length strips.old) × (places_length ≤ length places.old) }
     ensures { Planned (room_of_tables objects.now verdicts.now size) session.now (Make step)
         strips.old strips.new result }
 {
@@ -126,7 +126,7 @@ fn plan_undo(
     places: &mut [u32],
 ) -> Shown
     requires long_enough { LongEnough session.now objects.now verdicts.now size }
-    requires in_bounds { (128 ≤ length strips.old) × (places_length ≤ length places.old) }
+    requires strips_and_places_fit { (128 ≤ length strips.old) × (places_length ≤ length places.old) }
     ensures { Planned (room_of_tables objects.now verdicts.now size) session.now TakeBack
         strips.old strips.new result }
 {
@@ -149,7 +149,7 @@ pub fn plan(
     strips: &mut [u8],
 ) -> Shown
     requires long_enough { LongEnough session.now objects.now verdicts.now size }
-    requires in_bounds { 128 ≤ length strips.old }
+    requires strips_fit { 128 ≤ length strips.old }
     ensures { Planned (room_of_tables objects.now verdicts.now size) session.now call
         strips.old strips.new result }
 {

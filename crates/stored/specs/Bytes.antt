@@ -1,6 +1,7 @@
 -- A session in lent bytes (specs/Layout.antt): the count of steps at 0, the count of shown entries at 1, then the steps and the marks of
 -- the shown entries, the oldest first. Bytes past the counts are not looked at. Assumes nothing.
-use Rattle.std.specs.Prelude.{ℕ, zero, suc, ◌+◌, ◌*◌, ◌-◌, ◌≤◌, ◌<◌, Bool, true, false, cond, ◌&&◌, List, [], ◌∷◌, eqb, leb, get_or, set, take, length, replicate}
+use Rattle.std.specs.Prelude.{ℕ, zero, suc, ◌+◌, ◌*◌, ◌-◌, ◌≤◌, ◌<◌, eqb, leb, Bool, true, false, cond, ◌&&◌}
+use Rattle.std.specs.Prelude.{List, [], ◌∷◌, get_or, set, take, length, replicate}
 use Rattle.number.specs.Buffer.{over}
 use Rattle.scene.specs.declared.Call.{Call}
 use Rattle.scene.specs.declared.Call.TheVariants.{Make, TakeBack}

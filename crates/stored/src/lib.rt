@@ -1,4 +1,6 @@
 // A session's bytes (document 01, "Sessions"): its steps and the marks of its shown list, read and stored, and the list by value.
+#![tactic(auto)]
+
 use scene::Entry;
 
 pub mod bytes;
@@ -18,7 +20,7 @@ pub const MARK_SIZE: usize = 2;
 pub const MOST_SHOWN: usize = 64;
 
 // A shown list, the oldest entry first; or, where refusal is not 0, a refusal's number.
-#[derive(Drop)]
+#[derive(Clone, Copy)]
 pub struct Shown {
     pub refusal: u8,
     pub n: usize,

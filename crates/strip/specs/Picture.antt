@@ -1,5 +1,6 @@
 -- A strip's code, where its pixels lie, and a whole strip body (document 01, "Strips of pixels").
-use Rattle.std.specs.Prelude.{◌≡◌, ℕ, zero, suc, ◌+◌, ◌-◌, ◌*◌, ◌/◌, ◌%◌, ◌≤◌, Bool, true, false, cond, ◌&&◌, List, [], ◌∷◌, ◌++◌, length, ◌==◌, nat_le, nat_lt, slice_index}
+use Rattle.std.specs.Prelude.{◌≡◌, ℕ, zero, suc, ◌+◌, ◌-◌, ◌*◌, ◌/◌, ◌%◌, ◌≤◌, ◌==◌, nat_le, nat_lt}
+use Rattle.std.specs.Prelude.{Bool, true, false, cond, ◌&&◌, List, [], ◌∷◌, ◌++◌, length, slice_index}
 use Rattle.number.specs.Buffer.{over}
 use Rattle.bits.specs.Bits.{bits_of}
 use Rattle.strip.specs.Strip.{Strip, refused, values, decode}

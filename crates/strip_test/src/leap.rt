@@ -11,28 +11,28 @@ use strip::State;
 use strip::operations::run_pixels;
 
 // A place in the test of a strip: pixel i is the next, and its bits start at bit p of the body.
-#[derive(Drop)]
+#[derive(Clone, Copy)]
 pub(crate) struct Spot {
     p: usize,
     i: usize,
 }
 
 // A spot in each of two bodies.
-#[derive(Drop)]
+#[derive(Clone, Copy)]
 struct Spots {
     a: Spot,
     b: Spot,
 }
 
 // A place in each of two bodies, for the careful test.
-#[derive(Drop)]
+#[derive(Clone, Copy)]
 pub(crate) struct States {
     pub a: State,
     pub b: State,
 }
 
 // The bits ahead, and the sum of the rows that were looked up.
-#[derive(Drop)]
+#[derive(Clone, Copy)]
 struct Sight {
     v: u64,
     sum: usize,
@@ -233,8 +233,8 @@ pub(crate) fn start_two(
     rows_y: &[u16],
     total: usize,
 ) -> States
-    requires wx_bound { (wx ≤ 8) × (wy ≤ 8) × (1 ≤ total) × (total ≤ 1600) × (2 ≤ length x.now) × (2 ≤ length y.now) }
-    requires in_bounds { (256 ≤ length rows_x.now) × Rows second_x rows_x.now × (256 ≤ length rows_y.now) × Rows second_y rows_y.now }
+    requires bodies_begin { (wx ≤ 8) × (wy ≤ 8) × (1 ≤ total) × (total ≤ 1600) × (2 ≤ length x.now) × (2 ≤ length y.now) }
+    requires rows_of_methods { (256 ≤ length rows_x.now) × Rows second_x rows_x.now × (256 ≤ length rows_y.now) × Rows second_y rows_y.now }
     ensures { Begun second_x wx total x.now result.a × Begun second_y wy total y.now result.b }
 {
     let tx = widen_rows(rows_x, wx);

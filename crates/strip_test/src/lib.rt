@@ -1,5 +1,7 @@
 // The test of a strip: whether its body has a picture, or the number of its refusal (document 01, "Strips of pixels"). It asks no colour, and goes many
 // operations at once by a table of rows: leaps where there is room (src/leap.rt), and with care where there is not.
+#![tactic(auto)]
+
 mod leap;
 mod rows;
 
@@ -18,14 +20,14 @@ use strip::operations::{fits, kept, refill, step};
 use strip::{Kind, Made, Next, State};
 
 // What the tests of two strips come to.
-#[derive(Drop)]
+#[derive(Clone, Copy)]
 pub struct Pair {
     pub a: Made,
     pub b: Made,
 }
 
 // Whether a body is worth leaps, and then its method and its index width.
-#[derive(Drop)]
+#[derive(Clone, Copy)]
 struct Way {
     quick: bool,
     second: bool,
@@ -216,8 +218,8 @@ fn test_each(x: &[u8], y: &[u8], h: usize) -> Pair
 
 // Two bodies at once, each by the rows of its method.
 fn test_both(x: &[u8], u: Way, rows_x: &[u16], y: &[u8], v: Way, rows_y: &[u16], h: usize) -> Pair
-    requires h_bound { (h ≤ 200) × Quick u.second h x.now u.w × Quick v.second h y.now v.w }
-    requires in_bounds { (256 ≤ length rows_x.now) × Rows u.second rows_x.now × (256 ≤ length rows_y.now) × Rows v.second rows_y.now }
+    requires bodies_quick { (h ≤ 200) × Quick u.second h x.now u.w × Quick v.second h y.now v.w }
+    requires rows_of_methods { (256 ≤ length rows_x.now) × Rows u.second rows_x.now × (256 ≤ length rows_y.now) × Rows v.second rows_y.now }
     ensures { (result.a ≡ test_of (strip_of h x.now)) × (result.b ≡ test_of (strip_of h y.now)) }
 {
     let two = start_two(x, u.second, u.w, rows_x, y, v.second, v.w, rows_y, 8 * h);

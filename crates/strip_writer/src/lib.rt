@@ -1,4 +1,6 @@
 // Writes the bodies of strips: of pixels, and of rows of a mask plane (document 01, "Writing rule").
+#![tactic(auto)]
+
 ghost use Rattle.std.specs.Prelude.{◌≡◌, ◌+◌, ◌-◌, ◌*◌, ◌%◌, ◌^◌, ◌<◌, ◌≤◌, [], ◌++◌, length, take, drop, slice_index};
 ghost use Rattle.number.specs.Buffer.{over};
 ghost use Rattle.bits.specs.Bits.{low_bits};
@@ -13,7 +15,7 @@ use std::num::{wrapping_add_u8, wrapping_sub_u8};
 // ---- strips of pixels
 
 // A place among the bits that are written: the bit buffer `hold`, its number of bits, lowest first, and the bytes before `at` done.
-#[derive(Drop)]
+#[derive(Clone, Copy)]
 pub struct BitWriter {
     pub at: usize,
     pub bits: u32,
@@ -21,7 +23,7 @@ pub struct BitWriter {
 }
 
 // An operation: `count` bits, lowest first, as a number, and the step after it.
-#[derive(Drop)]
+#[derive(Clone, Copy)]
 pub struct Op {
     pub count: u32,
     pub value: u32,
@@ -253,7 +255,7 @@ fn literal_length(rows: &[u8], y: usize) -> usize
 }
 
 // The rows from y on are to be written at `at`.
-#[derive(Drop)]
+#[derive(Clone, Copy)]
 pub struct Place {
     pub y: usize,
     pub at: usize,

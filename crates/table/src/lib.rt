@@ -1,5 +1,7 @@
 // Strip tables and bodies of SMAP and ZP blocks, and the test of a whole block: refusals 5 to 8 (document 01, "Strips of pixels",
 // "Strips of masks"). A block stands in [b, z) of the room, its header included, and has n strips; `mask` is true for ZP.
+#![tactic(auto)]
+
 ghost use Rattle.std.specs.Prelude.{◌≡◌, true, false, ◌+◌, ◌-◌, ◌*◌, ◌≤◌, ◌<◌, length};
 ghost use Rattle.strip.specs.Strip.{Filled};
 ghost use Rattle.strip.specs.Picture.{Picture, Answered};
@@ -12,7 +14,7 @@ use number::{read_le16, read_le32};
 use strip::{Answer, Made};
 
 // What a test of a strip or a block finds.
-#[derive(Drop)]
+#[derive(Clone, Copy)]
 pub enum Test {
     Passed,
     Refused(u8),
@@ -89,9 +91,9 @@ pub fn body_end(room: &[u8], mask: bool, n: usize, b: usize, z: usize, k: usize)
 
 // The body of strip k, which has one, in a block whose table is right.
 pub fn strip_body(room: &[u8], mask: bool, n: usize, b: usize, z: usize, k: usize) -> &[u8]
-    requires k_lt_n { (k < n) × (n ≤ 128) × (b ≤ z) × (z ≤ length room.now) }
-    requires z_value { table_right mask n room.now b z ≡ true }
-    requires k_value { bodiless mask (offset_at mask room.now b k) ≡ false }
+    requires strip_in_block { (k < n) × (n ≤ 128) × (b ≤ z) × (z ≤ length room.now) }
+    requires table_right { table_right mask n room.now b z ≡ true }
+    requires has_body { bodiless mask (offset_at mask room.now b k) ≡ false }
     ensures { result.now ≡ body_of mask n room.now b z k }
 {
     let start = b + offset_at(room, mask, b, k);
@@ -109,9 +111,9 @@ pub fn read_strip(
     k: usize,
     out: &mut [u8],
 ) -> Answer
-    requires k_lt_n { (k < n) × (n ≤ 128) × (b ≤ z) × (z ≤ length room.now) }
-    requires z_value { table_right false n room.now b z ≡ true }
-    requires h_bound { (h ≤ 200) × (8 * h ≤ length out.old) }
+    requires strip_in_block { (k < n) × (n ≤ 128) × (b ≤ z) × (z ≤ length room.now) }
+    requires table_right { table_right false n room.now b z ≡ true }
+    requires pixels_fit { (h ≤ 200) × (8 * h ≤ length out.old) }
     ensures { Answered (strip_at n h room.now b z k) out.old out.new result }
 {
     decode::decode_strip(strip_body(room, false, n, b, z, k), h, out)
@@ -127,9 +129,9 @@ pub fn read_rows(
     k: usize,
     out: &mut [u8],
 ) -> Made
-    requires k_lt_n { (k < n) × (n ≤ 128) × (b ≤ z) × (z ≤ length room.now) }
-    requires z_value { table_right true n room.now b z ≡ true }
-    requires h_in_bounds { h ≤ length out.old }
+    requires strip_in_block { (k < n) × (n ≤ 128) × (b ≤ z) × (z ≤ length room.now) }
+    requires table_right { table_right true n room.now b z ≡ true }
+    requires rows_fit { h ≤ length out.old }
     ensures { Filled h (rows_at n h room.now b z k) out.old out.new result }
 {
     if offset_at(room, true, b, k) == 0 {
@@ -160,8 +162,8 @@ fn and_then(a: Test, b: Test) -> Test
 
 // The test of strip k of an SMAP block whose table is right.
 fn test_picture(room: &[u8], n: usize, h: usize, b: usize, z: usize, k: usize) -> Test
-    requires h_bound { (h ≤ 200) × (k < n) × (n ≤ 128) × (b ≤ z) × (z ≤ length room.now) }
-    requires z_value { table_right false n room.now b z ≡ true }
+    requires strip_in_block { (h ≤ 200) × (k < n) × (n ≤ 128) × (b ≤ z) × (z ≤ length room.now) }
+    requires table_right { table_right false n room.now b z ≡ true }
     ensures { result ≡ strip_test false n h room.now b z k }
 {
     test_of(strip_test::test_strip(strip_body(room, false, n, b, z, k), h))
@@ -169,8 +171,8 @@ fn test_picture(room: &[u8], n: usize, h: usize, b: usize, z: usize, k: usize) -
 
 // The test of the strips k and k + 1 of an SMAP block whose table is right.
 fn test_pictures(room: &[u8], n: usize, h: usize, b: usize, z: usize, k: usize) -> Test
-    requires h_bound { (h ≤ 200) × (k + 1 < n) × (n ≤ 128) × (b ≤ z) × (z ≤ length room.now) }
-    requires z_value { table_right false n room.now b z ≡ true }
+    requires strips_in_block { (h ≤ 200) × (k + 1 < n) × (n ≤ 128) × (b ≤ z) × (z ≤ length room.now) }
+    requires table_right { table_right false n room.now b z ≡ true }
     ensures { result ≡ and_then (strip_test false n h room.now b z k) (strip_test false n h room.now b z (k + 1)) }
 {
     let x = strip_body(room, false, n, b, z, k);
@@ -183,8 +185,8 @@ fn test_pictures(room: &[u8], n: usize, h: usize, b: usize, z: usize, k: usize) 
 
 // The test of strip k of a ZP block whose table is right.
 fn test_rows(room: &[u8], n: usize, h: usize, b: usize, z: usize, k: usize) -> Test
-    requires h_bound { (h ≤ 200) × (k < n) × (n ≤ 128) × (b ≤ z) × (z ≤ length room.now) }
-    requires z_value { table_right true n room.now b z ≡ true }
+    requires strip_in_block { (h ≤ 200) × (k < n) × (n ≤ 128) × (b ≤ z) × (z ≤ length room.now) }
+    requires table_right { table_right true n room.now b z ≡ true }
     ensures { result ≡ strip_test true n h room.now b z k }
 {
     if offset_at(room, true, b, k) == 0 {
@@ -198,8 +200,8 @@ fn test_rows(room: &[u8], n: usize, h: usize, b: usize, z: usize, k: usize) -> T
 
 // The test of strip k.
 fn test_strip(room: &[u8], mask: bool, n: usize, h: usize, b: usize, z: usize, k: usize) -> Test
-    requires h_bound { (h ≤ 200) × (k < n) × (n ≤ 128) × (b ≤ z) × (z ≤ length room.now) }
-    requires z_value { table_right mask n room.now b z ≡ true }
+    requires strip_in_block { (h ≤ 200) × (k < n) × (n ≤ 128) × (b ≤ z) × (z ≤ length room.now) }
+    requires table_right { table_right mask n room.now b z ≡ true }
     ensures { result ≡ strip_test mask n h room.now b z k }
 {
     if mask {
@@ -211,8 +213,8 @@ fn test_strip(room: &[u8], mask: bool, n: usize, h: usize, b: usize, z: usize, k
 
 // The test of the strips k and k + 1.
 fn test_pair(room: &[u8], mask: bool, n: usize, h: usize, b: usize, z: usize, k: usize) -> Test
-    requires h_bound { (h ≤ 200) × (k + 1 < n) × (n ≤ 128) × (b ≤ z) × (z ≤ length room.now) }
-    requires z_value { table_right mask n room.now b z ≡ true }
+    requires strips_in_block { (h ≤ 200) × (k + 1 < n) × (n ≤ 128) × (b ≤ z) × (z ≤ length room.now) }
+    requires table_right { table_right mask n room.now b z ≡ true }
     ensures { result ≡ and_then (strip_test mask n h room.now b z k) (strip_test mask n h room.now b z (k + 1)) }
 {
     if mask {

@@ -30,7 +30,7 @@ const UNKNOWN: u8 = 255;
 // The verdict of object o in state s. An image larger than the room is not tested: a draw of it is refused with 12 before.
 fn verdict_of(room: &[u8], r: Room, table: &[u32], o: usize, s: usize) -> u8
     requires ready { Ready room.now r table.now × (r.objects ≡ object_count room.now) }
-    requires le_o { (1 ≤ o) × (o ≤ r.objects) × (s ≤ 9) }
+    requires object_in_room { (1 ≤ o) × (o ≤ r.objects) × (s ≤ 9) }
     ensures { Right room.now r o s result }
 {
     if !image_drawable(room, table, r.objects, o, s) {
@@ -56,7 +56,7 @@ fn verdict_of(room: &[u8], r: Room, table: &[u32], o: usize, s: usize) -> u8
 // The verdict of object o in state s is put into its cell, if it has one and is not judged yet.
 fn judge_image(room: &[u8], r: Room, table: &[u32], o: usize, s: usize, verdicts: &mut [u8])
     requires ready { Ready room.now r table.now × (r.objects ≡ object_count room.now) }
-    requires verdicts_length_in_bounds { verdicts_length ≤ length verdicts.old }
+    requires verdicts_fit { verdicts_length ≤ length verdicts.old }
     ensures { (p : place.Place) (h : List steps.Step) → Judged room.now r verdicts.old h
         → Judged room.now r verdicts.new (variants.Draw o s p ∷ h) }
 {
@@ -83,7 +83,7 @@ fn judge_image(room: &[u8], r: Room, table: &[u32], o: usize, s: usize, verdicts
 // The verdict of the image that a step draws.
 fn judge_step(room: &[u8], r: Room, table: &[u32], step: Step, verdicts: &mut [u8])
     requires ready { Ready room.now r table.now × (r.objects ≡ object_count room.now) }
-    requires verdicts_length_in_bounds { verdicts_length ≤ length verdicts.old }
+    requires verdicts_fit { verdicts_length ≤ length verdicts.old }
     ensures { (h : List steps.Step) → Judged room.now r verdicts.old h
         → Judged room.now r verdicts.new (step ∷ h) }
 {
@@ -100,7 +100,7 @@ fn judge_step(room: &[u8], r: Room, table: &[u32], step: Step, verdicts: &mut [u
 // The verdicts of the images that the session's history draws, in a table that holds no others.
 fn judge_steps(room: &[u8], r: Room, table: &[u32], session: &[u8], verdicts: &mut [u8])
     requires ready { Ready room.now r table.now × (r.objects ≡ object_count room.now) }
-    requires session_size_in_bounds { (session_size ≤ length session.now) × (verdicts_length ≤ length verdicts.old) }
+    requires session_and_verdicts_fit { (session_size ≤ length session.now) × (verdicts_length ≤ length verdicts.old) }
     ensures { Judged room.now r verdicts.new (readable session.now) }
 {
     fill(verdicts, 0, VERDICTS_LENGTH, UNKNOWN);
@@ -119,7 +119,7 @@ fn judge_steps(room: &[u8], r: Room, table: &[u32], session: &[u8], verdicts: &m
 // The verdicts of the images that the session's history draws.
 pub fn judge_history(room: &[u8], r: Room, table: &[u32], session: &[u8], verdicts: &mut [u8])
     requires ready { Ready room.now r table.now × (r.objects ≡ object_count room.now) }
-    requires session_size_in_bounds { (session_size ≤ length session.now) × (verdicts_length ≤ length verdicts.old) }
+    requires session_and_verdicts_fit { (session_size ≤ length session.now) × (verdicts_length ≤ length verdicts.old) }
     ensures { TablesAgree (decoded room.now r) table.now verdicts.new (size_of r)
         (readable session.now) }
 {
@@ -129,7 +129,7 @@ pub fn judge_history(room: &[u8], r: Room, table: &[u32], session: &[u8], verdic
 // The verdicts of the images that the session's history and the call draw.
 pub fn judge(room: &[u8], r: Room, table: &[u32], session: &[u8], call: Call, verdicts: &mut [u8])
     requires ready { Ready room.now r table.now × (r.objects ≡ object_count room.now) }
-    requires session_size_in_bounds { (session_size ≤ length session.now) × (verdicts_length ≤ length verdicts.old) }
+    requires session_and_verdicts_fit { (session_size ≤ length session.now) × (verdicts_length ≤ length verdicts.old) }
     ensures { TablesAgree (decoded room.now r) table.now verdicts.new (size_of r)
         (asked_by call (readable session.now)) }
 {
