@@ -1,18 +1,12 @@
 -- Demand 2's sentence on actors, and what document 01 ("Actors, points, limbs") says of clip levels and of the stamp, as theorems over the
 -- definitions that the calls `hidden` and `stamp` are proved equal to. Assumes nothing.
-use mathlib.Core.Path.{◌≡◌, refl, sym, ap, ◌∙◌}
-use mathlib.Core.Bool.{Bool, true, false, ◌&&◌, and-false, cond}
-use mathlib.Core.Logic.{◌⊎◌, inl, inr, ◌↔◌, by_cases}
-use mathlib.Core.List.{List}
-use Prim.Native.Nat.{ℕ, ◌+◌, ◌*◌, ◌/◌, ◌%◌, ◌≤◌, ◌<◌}
-use native.Mathlib.Nat.{mod-lt}
-use native.Mathlib.Omega.{arith}
+use Rattle.std.proofs.Common.{◌≡◌, refl, sym, ap, ◌∙◌, Bool, true, false, ◌&&◌, cond, ◌⊎◌, inl, inr, ◌↔◌, List, ℕ, ◌+◌, ◌*◌, ◌/◌, ◌%◌, ◌≤◌, ◌<◌, mod-lt, arith, leb-true, ltb-true, le-leb, lt-ltb, eqb-true, eq-eqb, ne_eqb, leb, ltb, eqb, length, get_or}
+use mathlib.Core.Bool.{and-false}
+use mathlib.Core.Logic.{by_cases}
 use native.Mathlib.Decide.{ℕ_discrete}
-use borrow.Author.Tests.{leb-true, ltb-true, le-leb, lt-leb, lt-ltb, eqb-true, eq-eqb, ne_eqb}
+use borrow.Author.Tests.{lt-leb}
 use lib.Arith.{digits_div, digits_mod}
-use lib.Dec.{leb, ltb, eqb}
 use lib.IntN.{ℤ, pos, ◌+ℤ◌}
-use lib.ListN.{length, get_or}
 use Rattle.grid.specs.Grid.{upd}
 use Rattle.grid.proofs.Upd.{length-upd, get_or-upd, upd_ext}
 use Rattle.grid.proofs.Box.{cell_lt}
@@ -50,7 +44,8 @@ abbrev pub SamePlane : (w h k : ℕ) → List ℕ → List ℕ → Type 0
 SamePlane w h k a b = (s y : ℕ) → s < w / 8 → y < h → get_or a (mask_place w h k s y) 0 ≡ get_or b (mask_place w h k s y) 0
 
 -- hiding asks the plane of the clip level and no other: masks that agree on it hide the same pixels
-pub one-plane : (w h n clip x y : ℕ) (a b : List ℕ) → w % 8 ≡ 0 → x < w → y < h → SamePlane w h clip a b → hidden_at a w h n clip x y ≡ hidden_at b w h n clip x y
+pub one-plane : (w h n clip x y : ℕ) (a b : List ℕ) → w % 8 ≡ 0 → x < w → y < h → SamePlane w h clip a b
+    → hidden_at a w h n clip x y ≡ hidden_at b w h n clip x y
 unfolding hidden_at mask_bit
 one-plane w h n clip x y a b whole hx hy same = rw (same (x / 8) y (omega arith) hy)
 
@@ -84,7 +79,8 @@ module _ (frame masks picture : List ℕ) (w h n width height clear : ℕ) (x y 
   same_length = by_cases (ℕ_discrete refusal 0) (λ e. ap length (accepted-stamps e) ∙ length-upd _ frame) (λ e. ap length (refused_keeps e))
 
   -- a byte of the frame where no pixel of the picture stands, or past the frame, stays
-  pub elsewhere : (i : ℕ) → i < length frame → (ltb (i / w) h && (covers y height (i / w) && covers x width (i % w))) ≡ false → get_or after i 0 ≡ get_or frame i 0
+  pub elsewhere : (i : ℕ) → i < length frame → (ltb (i / w) h && (covers y height (i / w) && covers x width (i % w))) ≡ false
+      → get_or after i 0 ≡ get_or frame i 0
   unfolding stamped
   elsewhere i hi off =
       by_cases (ℕ_discrete refusal 0)

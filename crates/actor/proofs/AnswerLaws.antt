@@ -1,8 +1,5 @@
 -- The answer to the hidden-pixel question from its number and what the masks say. Assumes nothing.
-use mathlib.Core.Path.{◌≡◌}
-use mathlib.Core.Bool.{Bool}
-use Prim.Native.Nat.{ℕ}
-use borrow.Author.Tests.{eq-eqb, ne_eqb}
+use Rattle.std.proofs.Common.{◌≡◌, Bool, ℕ, eq-eqb, ne_eqb}
 use Rattle.actor.specs.Hidden.{answered}
 use Rattle.actor.specs.declared.Answer.TheVariants.{Refused, Hidden}
 

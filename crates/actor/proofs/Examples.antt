@@ -1,7 +1,5 @@
 -- Small rooms and pictures worked out, so that the definitions are seen at work. Assumes nothing.
-use mathlib.Core.Path.{◌≡◌, refl}
-use mathlib.Core.Bool.{true, false}
-use mathlib.Core.List.{[], ◌∷◌}
+use Rattle.std.proofs.Common.{◌≡◌, refl, true, false, [], ◌∷◌}
 use lib.IntN.{pos, negsuc}
 use Rattle.grid.specs.Grid.{upd}
 use Rattle.actor.specs.Sizes.{sizes_fit, picture_fits, buffers_fit}

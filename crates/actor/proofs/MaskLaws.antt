@@ -1,16 +1,9 @@
 -- The byte of a mask bit stands within the masks, and eight bits taken out of two bytes are those of eight pixels. Assumes nothing.
-use mathlib.Core.Path.{◌≡◌, refl, sym, ap, ap₂, ◌∙◌}
-use mathlib.Core.Bool.{◌||◌, cond}
+use Rattle.std.proofs.Common.{◌≡◌, refl, sym, ap, ap₂, ◌∙◌, ◌||◌, cond, List, ℕ, ◌+◌, ◌-◌, ◌*◌, ◌/◌, ◌%◌, ◌^◌, ◌≤◌, ◌<◌, add_assoc, mul_comm, mul_assoc, mul-le-mul_right, arith, eqb, get_or, pow-add, pow_pos, shr-shr}
 use mathlib.Core.Logic.{by_cases}
-use mathlib.Core.List.{List}
-use Prim.Native.Nat.{ℕ, ◌+◌, ◌-◌, ◌*◌, ◌/◌, ◌%◌, ◌^◌, ◌≤◌, ◌<◌}
-use native.Mathlib.Nat.{add_assoc, mul_comm, mul_assoc, mul-add-div_right, mul-le-mul_right}
-use native.Mathlib.Omega.{arith}
+use native.Mathlib.Nat.{mul-add-div_right}
 use native.Mathlib.Decide.{dec_lt}
 use lib.Arith.{digits_div}
-use lib.Dec.{eqb}
-use lib.ListN.{get_or}
-use lib.Pow.{pow-add, pow_pos, shr-shr}
 use Rattle.grid.specs.Grid.{upd, rowed}
 use Rattle.actor.specs.Sizes.{Planes}
 use Rattle.actor.specs.Hidden.{mask_place}

@@ -1,17 +1,11 @@
 -- Which bytes of a lent picture a stamp goes by, and what it leaves where it shows no pixel. Assumes nothing.
-use mathlib.Core.Path.{◌≡◌, refl, sym, ap, ◌∙◌}
-use mathlib.Core.Bool.{Bool, true, false, ◌&&◌, false≢true}
+use Rattle.std.proofs.Common.{◌≡◌, refl, sym, ap, ◌∙◌, Bool, true, false, ◌&&◌, List, ℕ, ◌+◌, ◌*◌, ◌/◌, ◌%◌, ◌≤◌, ◌<◌, mul_comm, le-div_iff_mul-le, arith, le-leb, lt-ltb, le-ltb, ltb, length, get_or}
+use mathlib.Core.Bool.{false≢true}
 use mathlib.Core.Logic.{by_cases}
-use mathlib.Core.List.{List}
-use Prim.Native.Nat.{ℕ, ◌+◌, ◌*◌, ◌/◌, ◌%◌, ◌≤◌, ◌<◌}
-use native.Mathlib.Nat.{mul_comm, le-div_iff_mul-le}
-use native.Mathlib.Omega.{arith}
 use native.Mathlib.Decide.{ℕ_discrete, dec_lt}
-use borrow.Author.Tests.{le-leb, lt-ltb, le-ltb}
 use lib.Arith.{digits_div, digits_mod}
-use lib.Dec.{ltb}
 use lib.IntN.{ℤ, pos, ◌+ℤ◌}
-use lib.ListN.{length, get_or, get_or-eq_default}
+use lib.ListN.{get_or-eq_default}
 use Rattle.grid.proofs.Upd.{upd_ext}
 use Rattle.grid.proofs.Box.{cell_lt}
 use Rattle.number.proofs.BoolLaws.{both}

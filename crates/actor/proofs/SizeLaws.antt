@@ -1,11 +1,5 @@
 -- What the tests of a call leave known where they hold. Assumes nothing.
-use mathlib.Core.Path.{◌≡◌, refl, ap, ◌∙◌}
-use mathlib.Core.Bool.{Bool, true, false, ◌&&◌, cond}
-use Prim.Native.Nat.{ℕ, suc, ◌*◌, ◌/◌, ◌%◌, ◌≤◌, ◌<◌}
-use native.Mathlib.Nat.{mul_comm, mul_assoc}
-use native.Mathlib.Omega.{arith}
-use borrow.Author.Tests.{leb-true, ltb-true, eqb-true}
-use lib.Dec.{leb}
+use Rattle.std.proofs.Common.{◌≡◌, refl, ap, ◌∙◌, Bool, true, false, ◌&&◌, cond, ℕ, suc, ◌*◌, ◌/◌, ◌%◌, ◌≤◌, ◌<◌, mul_comm, mul_assoc, arith, leb-true, ltb-true, eqb-true, leb}
 use Rattle.number.proofs.BoolLaws.{both}
 use Rattle.actor.specs.Sizes.{sizes_fit, picture_fits, mask_bytes, buffers_fit, Planes}
 use Rattle.actor.specs.Hidden.{hidden_number}

@@ -1,16 +1,9 @@
 -- A picture clipped to the frame, as a box of the frame, is the picture stamped at its signed corner. Assumes nothing.
-use mathlib.Core.Path.{◌≡◌, refl, sym, ◌∙◌}
-use mathlib.Core.Bool.{Bool, true, false, ◌&&◌, and_assoc, and-false, false≢true, cond}
+use Rattle.std.proofs.Common.{◌≡◌, refl, sym, ◌∙◌, Bool, true, false, ◌&&◌, cond, List, ℕ, ◌+◌, ◌-◌, ◌*◌, ◌/◌, ◌%◌, ◌≤◌, ◌<◌, min, mod-lt, arith, lt-ltb, le-ltb, ltb, get_or}
+use mathlib.Core.Bool.{and_assoc, and-false, false≢true}
 use mathlib.Core.Logic.{by_cases}
-use mathlib.Core.List.{List}
-use Prim.Native.Nat.{ℕ, ◌+◌, ◌-◌, ◌*◌, ◌/◌, ◌%◌, ◌≤◌, ◌<◌, min}
-use native.Mathlib.Nat.{mod-lt}
-use native.Mathlib.Omega.{arith}
 use native.Mathlib.Decide.{dec_lt}
-use borrow.Author.Tests.{lt-ltb, le-ltb}
-use lib.Dec.{ltb}
 use lib.IntN.{ℤ}
-use lib.ListN.{get_or}
 use Rattle.grid.specs.Grid.{upd, within, boxed, Inside}
 use Rattle.number.specs.Number.{ahead, behind}
 use Rattle.actor.specs.Corner.{covers, nth, InFrame}

@@ -1,15 +1,7 @@
 -- Laws of the low bits of a number, and of a number read from a list of bits.
-use mathlib.Core.Path.{◌≡◌, refl, sym, ap, ap₂, ◌∙◌, subst}
-use mathlib.Core.Bool.{Bool, true, false, true≢false}
-use mathlib.Core.List.{List, [], ◌∷◌, ◌++◌, append_assoc}
-use Prim.Native.Nat.{ℕ, zero, suc, ◌+◌, ◌-◌, ◌*◌, ◌/◌, ◌%◌, ◌^◌, ◌≤◌, ◌<◌}
-use native.Mathlib.Nat.{mod-lt, suc-sub-suc, sub-zero, le_of_suc-le-suc, not-suc-le-zero, zero-add, suc-add, div-one, mod-one, pow-suc, mul_assoc, div-add-mod'}
-use native.Mathlib.Numerals.{add-one, one-add}
-use native.Mathlib.Omega.{arith}
-use lib.ListN.{length, drop, replicate, length-append}
-use lib.Seq.{drop_at}
-use lib.Dec.{eqb}
-use lib.Pow.{mod-pow-add, shr-shr, pow_pos}
+use Rattle.std.proofs.Common.{◌≡◌, refl, sym, ap, ap₂, ◌∙◌, subst, Bool, true, false, true≢false, List, [], ◌∷◌, ◌++◌, append_assoc, ℕ, zero, suc, ◌+◌, ◌-◌, ◌*◌, ◌/◌, ◌%◌, ◌^◌, ◌≤◌, ◌<◌, mod-lt, le_of_suc-le-suc, not-suc-le-zero, zero-add, suc-add, div-one, pow-suc, mul_assoc, div-add-mod', add-one, one-add, arith, length, drop, replicate, length-append, drop_at, eqb, shr-shr, pow_pos}
+use native.Mathlib.Nat.{suc-sub-suc, sub-zero, mod-one}
+use lib.Pow.{mod-pow-add}
 use Rattle.bits.specs.Bits.{low_bits, Pull, short, got, bit_value, below, pull}
 
 -- bit 0 is the remainder by 2

@@ -1,18 +1,7 @@
 -- Laws of a cursor: the bits left are the same whatever of them is held, and bits that are handed out come from their front.
-use mathlib.Core.Path.{◌≡◌, refl, sym, ap, ◌∙◌, subst}
-use mathlib.Core.Bool.{Bool}
-use mathlib.Core.List.{List, [], ◌∷◌, ◌++◌, append_assoc}
-use Prim.Native.Nat.{ℕ, zero, suc, ◌+◌, ◌-◌, ◌*◌, ◌/◌, ◌%◌, ◌^◌, ◌≤◌, ◌<◌}
-use native.Mathlib.Nat.{add-zero, one-mul, mod-eq_of_lt, lt_of_le_of_lt}
-use native.Mathlib.Numerals.{add-one}
-use native.Mathlib.Omega.{arith}
+use Rattle.std.proofs.Common.{◌≡◌, refl, sym, ap, ◌∙◌, subst, Bool, List, [], ◌∷◌, ◌++◌, append_assoc, ℕ, zero, suc, ◌+◌, ◌-◌, ◌*◌, ◌/◌, ◌%◌, ◌^◌, ◌≤◌, ◌<◌, add-zero, one-mul, mod-eq_of_lt, lt_of_le_of_lt, add-one, arith, eqb, lit<, get_or, length, drop, length-append, drop_of_length-le, pow-add, pow_mono, shr_lt, shl_exact, drop-cons, drop-drop, drop_at, Fits, w8}
 use lib.Arith.{digits_lt}
-use lib.Dec.{eqb, lit<}
-use lib.ListN.{get_or, length, drop, length-append, drop_of_length-le}
-use lib.Pow.{pow-add, pow_mono, shr_lt, shl_exact}
-use lib.Seq.{drop-cons, drop-drop, drop_at, drop-nil}
-use mir.Val.{Fits}
-use mir.Syntax.{w8}
+use lib.Seq.{drop-nil}
 use Rattle.bits.specs.declared.Cursor.{Cursor}
 use Rattle.bits.specs.Bits.{low_bits, bits_of, got, pull, rest, word_at, Held, Full, Views}
 use Rattle.bits.specs.Reader.{Fetches, Hands, Shows, One}
@@ -33,7 +22,8 @@ bits-word s at h byte =
     let e3 : bits_of (drop (at + 3) s) ≡ low_bits 8 (get_or s (at + 3) 0) ++ bits_of (drop (at + 4) s) = rw (at_on 3) at (bits_byte s (at + 3) (omega arith)) in
     let e2 : bits_of (drop (at + 2) s) ≡ low_bits 16 (get_or s (at + 2) 0 + get_or s (at + 3) 0 * 256) ++ bits_of (drop (at + 4) s) =
     rw (at_on 2) at (bits_byte s (at + 2) (omega arith)) ∙ join 8 8 _ _ _ _ (byte (at + 2)).fits e3 in
-    let e1 : bits_of (drop (at + 1) s) ≡ low_bits 24 (get_or s (at + 1) 0 + (get_or s (at + 2) 0 + get_or s (at + 3) 0 * 256) * 256) ++ bits_of (drop (at + 4) s) =
+    let e1 : bits_of (drop (at + 1) s) ≡ low_bits 24 (get_or s (at + 1) 0 + (get_or s (at + 2) 0 + get_or s (at + 3) 0 * 256) * 256)
+    ++ bits_of (drop (at + 4) s) =
     rw (at_on 1) at (bits_byte s (at + 1) (omega arith)) ∙ join 8 16 _ _ _ _ (byte (at + 1)).fits e2 in
     bits_byte s at (omega arith) ∙ join 8 24 _ _ _ _ (byte at).fits e1
   where
@@ -47,7 +37,8 @@ bits-eight : (s : List ℕ) (at : ℕ) → at + 8 ≤ length s → ((i : ℕ) �
     → bits_of (drop at s) ≡ low_bits 64 (word_at s at + word_at s (at + 4) * 4294967296) ++ bits_of (drop (at + 8) s)
 bits-eight s at h byte =
     let four : at + 4 + 4 ≡ at + 8 = omega arith in
-    let second : bits_of (drop (at + 4) s) ≡ low_bits 32 (word_at s (at + 4)) ++ bits_of (drop (at + 8) s) = rw four at (bits-word s (at + 4) (omega arith) byte) in
+    let second : bits_of (drop (at + 4) s) ≡ low_bits 32 (word_at s (at + 4)) ++ bits_of (drop (at + 8) s) =
+    rw four at (bits-word s (at + 4) (omega arith) byte) in
     bits-word s at (omega arith) byte ∙ join 32 32 (word_at s at) _ _ _ (word_lt s at byte) second
 
 pub drop-bytes : (a : ℕ) (s : List ℕ) → drop (8 * a) (bits_of s) ≡ bits_of (drop a s)

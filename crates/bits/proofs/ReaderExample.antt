@@ -1,10 +1,6 @@
 -- A reader over twelve literal bytes, from byte 2 on: seven bytes are fetched, eight bits handed out, one byte more fetched, and then five and
 -- three bits handed out. The cursors, the numbers and the bits are literals, and all of it is computed.
-use mathlib.Core.Path.{refl}
-use mathlib.Core.Bool.{Bool, true, false}
-use mathlib.Core.List.{List, [], ◌∷◌}
-use Prim.Native.Nat.{ℕ}
-use lib.Dec.{lit<, lit≤}
+use Rattle.std.proofs.Common.{refl, Bool, true, false, List, [], ◌∷◌, ℕ, lit<, lit≤}
 use Rattle.bits.specs.declared.Cursor.{Cursor}
 use Rattle.bits.specs.Bits.{low_bits, bits_of, rest}
 use Rattle.bits.specs.Reader.{Starts, Fetches, Hands, Reads, starts, fetches, hands}

@@ -1,13 +1,10 @@
 -- Laws of the count of zero bits at the front of a number.
-use mathlib.Core.Path.{◌≡◌, refl, sym, ap, ◌∙◌}
-use Prim.Native.Nat.{ℕ, zero, suc, ◌+◌, ◌/◌, ◌%◌, ◌^◌, ◌≤◌, ◌<◌}
-use native.Mathlib.Nat.{mod-one, div-one, mod-eq_of_lt}
-use native.Mathlib.Numerals.{add-one, one-add}
-use native.Mathlib.Omega.{arith}
+use Rattle.std.proofs.Common.{◌≡◌, refl, sym, ap, ◌∙◌, ℕ, zero, suc, ◌+◌, ◌/◌, ◌%◌, ◌^◌, ◌≤◌, ◌<◌, div-one, mod-eq_of_lt, add-one, one-add, arith, shr-shr, pow_mono}
+use native.Mathlib.Nat.{mod-one}
 use native.Mathlib.Decide.{dec_lt}
 use mathlib.Core.Logic.{by_cases}
 use lib.Count.{count_trailing_zeros, under}
-use lib.Pow.{mod-pow-add, shr-shr, pow_mono}
+use lib.Pow.{mod-pow-add}
 
 -- the bits below the count are 0
 zeros-below : (d x : ℕ) → x % 2 ^ count_trailing_zeros d x ≡ 0

@@ -1,13 +1,8 @@
 -- Laws of the block tree: what a walk over a list of blocks gives at a block, and where no block stands.
-use mathlib.Core.Path.{◌≡◌, refl, ap, sym, ◌∙◌, subst, subst⁻¹}
-use mathlib.Core.List.{List, [], ◌∷◌}
-use mathlib.Core.Bool.{Bool, true, false, ◌&&◌, cond, and-false}
-use Prim.Native.Nat.{ℕ, zero, suc, ◌+◌, ◌-◌, ◌≤◌, ◌<◌}
-use native.Mathlib.Omega.{arith}
-use native.Mathlib.Numerals.{sub-one}
-use lib.Dec.{leb, eqb}
-use lib.ListN.{get_or, length}
-use borrow.Author.Tests.{leb-true, le-leb, lt-leb, ne_eqb, eq-eqb}
+use Rattle.std.proofs.Common.{◌≡◌, refl, ap, sym, ◌∙◌, List, [], ◌∷◌, Bool, true, false, ◌&&◌, cond, ℕ, zero, suc, ◌+◌, ◌-◌, ◌≤◌, ◌<◌, arith, sub-one, leb, eqb, get_or, length, leb-true, le-leb, ne_eqb, eq-eqb}
+use mathlib.Core.Path.{subst⁻¹}
+use mathlib.Core.Bool.{and-false}
+use borrow.Author.Tests.{lt-leb}
 use Rattle.number.proofs.BoolLaws.{and_left, and_right}
 use Rattle.number.specs.Number.{be32}
 use Rattle.block.specs.Tag.{container}

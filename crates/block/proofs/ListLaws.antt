@@ -1,12 +1,5 @@
 -- Blocks that stand one after another in a list: what the tests and the searches of the tree find of them, for any number of blocks.
-use mathlib.Core.Path.{◌≡◌, refl, sym, ap, ◌∙◌}
-use mathlib.Core.List.{List, [], ◌∷◌}
-use mathlib.Core.Bool.{true, false}
-use Prim.Native.Nat.{ℕ, zero, suc, ◌+◌, ◌-◌, ◌≤◌, ◌<◌}
-use native.Mathlib.Nat.{add-zero}
-use native.Mathlib.Omega.{arith}
-use borrow.Author.Tests.{eq-eqb}
-use lib.ListN.{get_or}
+use Rattle.std.proofs.Common.{◌≡◌, refl, sym, ap, ◌∙◌, List, [], ◌∷◌, true, false, ℕ, zero, suc, ◌+◌, ◌-◌, ◌≤◌, ◌<◌, add-zero, arith, eq-eqb, get_or}
 use Rattle.number.specs.Number.{be32, be32_bytes}
 use Rattle.block.specs.Tag.{container}
 use Rattle.block.specs.Tree.{block_end, block_ok, list_ok, tagged, find_tag}

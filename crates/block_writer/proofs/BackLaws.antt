@@ -1,14 +1,8 @@
 -- That the strips of a block that is written read back, for a block in its place: the bytes of a strip, the offsets' room, and each
 -- strip as the reader's definitions (crate table) read it.
-use mathlib.Core.Path.{◌≡◌, refl, sym, ap, ap₂, ◌∙◌, subst}
-use mathlib.Core.Bool.{Bool, true, false, cond}
-use mathlib.Core.List.{List}
-use Prim.Native.Nat.{ℕ, ◌+◌, ◌*◌, ◌/◌, ◌%◌, ◌≤◌, ◌<◌}
-use native.Mathlib.Nat.{one-mul, div-one, mod-one}
-use native.Mathlib.Omega.{arith}
-use lib.ListN.{length, get_or, replicate, get_or-eq_default}
-use lib.Dec.{lit<, ltb, eqb}
-use borrow.Author.Tests.{ltb-true, ltb-false, eq-eqb, ne_eqb}
+use Rattle.std.proofs.Common.{◌≡◌, refl, sym, ap, ap₂, ◌∙◌, subst, Bool, true, false, cond, List, ℕ, ◌+◌, ◌*◌, ◌/◌, ◌%◌, ◌≤◌, ◌<◌, one-mul, div-one, arith, length, get_or, replicate, lit<, ltb, eqb, ltb-true, ltb-false, eq-eqb, ne_eqb}
+use native.Mathlib.Nat.{mod-one}
+use lib.ListN.{get_or-eq_default}
 use Rattle.strip.specs.Strip.{values}
 use Rattle.strip.specs.Picture.{up_to, picture, strip_of}
 use Rattle.strip.proofs.PictureLaws.{length-up_to, get_or-up_to}
@@ -82,7 +76,8 @@ some_body false n h rows one k e =
     omega (arith, length-strip px (omega arith))
 
 module _ (n h : ℕ) (rows s : List ℕ) (b z : ℕ) (one : 1 ≤ h) where
-  pub strip_is : Placed false n (body_for false n h rows) s b z → Bytes rows → (k : ℕ) → k < n → strip_at n h s b z k ≡ picture false (pixels_of_strip n h rows k)
+  pub strip_is : Placed false n (body_for false n h rows) s b z → Bytes rows → (k : ℕ) → k < n
+      → strip_at n h s b z k ≡ picture false (pixels_of_strip n h rows k)
   unfolding strip_at body_for
   strip_is p bytes k lt =
       let px = pixels_of_strip n h rows k in

@@ -1,11 +1,5 @@
 -- How long a body can be, and that the length of all bodies is the sum of theirs.
-use mathlib.Core.Path.{◌≡◌, ap, ◌∙◌}
-use mathlib.Core.Bool.{Bool, true, false}
-use mathlib.Core.List.{List}
-use Prim.Native.Nat.{ℕ, zero, suc, ◌+◌, ◌*◌, ◌/◌, ◌≤◌, zero-le}
-use native.Mathlib.Nat.{mul-suc, le_trans, mul-le-mul_right}
-use native.Mathlib.Omega.{arith}
-use lib.ListN.{length, get_or, drop, length-append, length-drop}
+use Rattle.std.proofs.Common.{◌≡◌, ap, ◌∙◌, Bool, true, false, List, ℕ, zero, suc, ◌+◌, ◌*◌, ◌/◌, ◌≤◌, zero-le, mul-suc, le_trans, mul-le-mul_right, arith, length, get_or, drop, length-append, length-drop}
 use Rattle.table.specs.Table.{table_end}
 use Rattle.strip_writer.proofs.WritingLaws.{length-strip}
 use Rattle.strip_writer.proofs.SizeLaws.{ops_few}

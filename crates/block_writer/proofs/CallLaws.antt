@@ -1,14 +1,6 @@
 -- Laws of the calls: each answer from the tests that led to it.
-use mathlib.Core.Path.{◌≡◌, refl, sym, ap, ap₂, ◌∙◌}
-use mathlib.Core.Bool.{Bool, true, ◌&&◌}
-use mathlib.Core.List.{List, ◌++◌, append_assoc}
-use Prim.Native.Nat.{ℕ, ◌+◌, ◌*◌, ◌%◌, ◌≤◌, ◌<◌}
-use native.Mathlib.Nat.{le_trans, mul-le-mul_right, zero-add}
-use native.Mathlib.Omega.{arith}
-use borrow.Author.Tests.{lt-ltb, le-ltb, leb-true, eqb-true}
-use lib.ListN.{length, take, drop, length-append}
-use lib.Seq.{sets, drop_at, length-take-le}
-use lib.Dec.{leb, eqb}
+use Rattle.std.proofs.Common.{◌≡◌, refl, sym, ap, ap₂, ◌∙◌, Bool, true, ◌&&◌, List, ◌++◌, append_assoc, ℕ, ◌+◌, ◌*◌, ◌%◌, ◌≤◌, ◌<◌, le_trans, mul-le-mul_right, zero-add, arith, lt-ltb, le-ltb, leb-true, eqb-true, length, take, drop, length-append, drop_at, length-take-le, leb, eqb}
+use lib.Seq.{sets}
 use Rattle.number.specs.Number.{be32_bytes}
 use Rattle.block_writer.specs.declared.Wrote.TheVariants.{Block, Refused}
 use Rattle.table.specs.Table.{table_end}

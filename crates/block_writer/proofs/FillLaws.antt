@@ -1,12 +1,7 @@
 -- Laws of the table and the bodies: one strip more, and all of them. They hold for any bodies f.
-use mathlib.Core.Path.{◌≡◌, refl, sym, ap, ap₂, ◌∙◌}
-use mathlib.Core.Bool.{Bool, true, false}
-use mathlib.Core.List.{List, [], ◌∷◌, ◌++◌, append_assoc, append-nil}
-use Prim.Native.Nat.{ℕ, zero, suc, ◌+◌, ◌-◌, ◌*◌, ◌≤◌, ◌<◌, zero-le}
-use native.Mathlib.Nat.{le_refl, sub-zero}
-use native.Mathlib.Omega.{arith}
-use lib.ListN.{length, take, drop, length-append, length-drop}
-use lib.Seq.{sets, drop-drop, length-sets, length-take-le, take-add}
+use Rattle.std.proofs.Common.{◌≡◌, refl, sym, ap, ap₂, ◌∙◌, Bool, true, false, List, [], ◌∷◌, ◌++◌, append_assoc, append-nil, ℕ, zero, suc, ◌+◌, ◌-◌, ◌*◌, ◌≤◌, ◌<◌, zero-le, le_refl, arith, length, take, drop, length-append, length-drop, drop-drop, length-take-le, take-add}
+use native.Mathlib.Nat.{sub-zero}
+use lib.Seq.{sets, length-sets}
 use Rattle.number.specs.Number.{le16_bytes, le32_bytes}
 use Rattle.number.specs.Buffer.{over}
 use Rattle.number.proofs.BufferLaws.{over_of}

@@ -1,15 +1,7 @@
 -- A block that is written, as the reader's own definitions (crate table) find it wherever it stands: its header, its offsets, where
 -- each body ends, its bodies, and that its table is right. For any bodies f that the offsets can point at.
-use mathlib.Core.Path.{◌≡◌, refl, sym, ap, ap₂, ◌∙◌}
-use mathlib.Core.Bool.{Bool, true, false, ◌&&◌, cond}
-use mathlib.Core.List.{List, [], ◌∷◌, ◌++◌, append_assoc, append-nil}
-use Prim.Native.Nat.{ℕ, zero, suc, ◌+◌, ◌-◌, ◌*◌, ◌/◌, ◌%◌, ◌^◌, ◌≤◌, ◌<◌, zero-le}
-use native.Mathlib.Nat.{div-div-eq-div-mul, mod-add-div, mod-eq_of_lt, le_refl, add-zero, zero-add, suc-add}
-use native.Mathlib.Omega.{arith}
-use borrow.Author.Tests.{eq-eqb, ne_eqb, le-leb, lt-ltb}
-use lib.ListN.{length, get_or, take, drop, length-append}
-use lib.Seq.{get_or-append-add, drop_at, take_at}
-use lib.Dec.{eqb}
+use Rattle.std.proofs.Common.{◌≡◌, refl, sym, ap, ap₂, ◌∙◌, Bool, true, false, ◌&&◌, cond, List, [], ◌∷◌, ◌++◌, append_assoc, append-nil, ℕ, zero, suc, ◌+◌, ◌-◌, ◌*◌, ◌/◌, ◌%◌, ◌^◌, ◌≤◌, ◌<◌, zero-le, mod-eq_of_lt, le_refl, add-zero, zero-add, suc-add, arith, eq-eqb, ne_eqb, le-leb, lt-ltb, length, get_or, take, drop, length-append, get_or-append-add, drop_at, take_at, eqb}
+use native.Mathlib.Nat.{div-div-eq-div-mul, mod-add-div}
 use Rattle.number.specs.Number.{be32, le16, le32, le16_bytes, le32_bytes, be32_bytes}
 use Rattle.table.specs.Table.{offset_size, table_end, offset_at, offset_right, bodiless, offsets_right, table_right}
 use Rattle.table.specs.Body.{body_end, body_of}
@@ -64,7 +56,8 @@ abbrev pub most : Bool → ℕ
 most false = 2 ^ 32
 most true = 2 ^ 16
 
-offset_back : (mask : Bool) (v b k : ℕ) (p r : List ℕ) → v < most mask → length p ≡ b + 8 + offset_size mask * k → offset_at mask (p ++ (offset_bytes mask v ++ r))
+offset_back : (mask : Bool) (v b k : ℕ) (p r : List ℕ) → v < most mask → length p ≡ b + 8 + offset_size mask * k
+    → offset_at mask (p ++ (offset_bytes mask v ++ r))
     b k ≡ v
 unfolding offset_at offset_bytes le16_bytes le32_bytes
 offset_back true v b k p r h e = ap (le16 (p ++ (offset_bytes true v ++ r))) (sym e) ∙ le16_back v p r h
@@ -89,7 +82,8 @@ module _ (f : ℕ → List ℕ) where
       ∙ sym (append_assoc (f s) (bodies_from f (s + 1) k) (bodies_from f (s + suc k) m))
 
   module _ (mask : Bool) where
-    pub table_split : (s k m at : ℕ) → table_from mask f s (k + m) at ≡ table_from mask f s k at ++ table_from mask f (s + k) m (at + length (bodies_from f s k))
+    pub table_split : (s k m at : ℕ) → table_from mask f s (k + m) at ≡ table_from mask f s k at
+        ++ table_from mask f (s + k) m (at + length (bodies_from f s k))
     unfolding table_from bodies_from
     table_split s zero m at =
         ap₂ (λ (a b : ℕ). table_from mask f a b at) (sym (add-zero s)) (zero-add m) ∙ ap (table_from mask f (s + 0) m) (sym (add-zero at))
@@ -101,7 +95,8 @@ module _ (f : ℕ → List ℕ) where
         ap (λ (j : ℕ). table_from mask f s j at) (suc-add k m)
         ∙ ap (λ (q : List ℕ). c ++ q)
         (table_split (s + 1) k m (at + length (f s)) ∙ ap₂ (λ (a b : ℕ). table_from mask f (s + 1) k (at + length (f s)) ++ table_from mask f a m b) e z)
-        ∙ sym (append_assoc c (table_from mask f (s + 1) k (at + length (f s))) (table_from mask f (s + suc k) m (at + length (f s ++ bodies_from f (s + 1) k))))
+        ∙ sym (append_assoc c (table_from mask f (s + 1) k (at + length (f s)))
+        (table_from mask f (s + suc k) m (at + length (f s ++ bodies_from f (s + 1) k))))
 
 -- where the body of strip k starts, counted from the header
 abbrev pub start_of : Bool → (n : ℕ) → (ℕ → List ℕ) → ℕ → ℕ
@@ -172,7 +167,8 @@ module _ (tag : ℕ) (mask : Bool) (n : ℕ) (f : ℕ → List ℕ) (before afte
       let t : table_from mask f 0 n at ≡ done ++ (offset_bytes mask v ++ left) =
       ap (λ (j : ℕ). table_from mask f 0 j at) e ∙ table_split f mask 0 k (suc m) at ∙ ap (λ (j : ℕ). done ++ table_from mask f j (suc m) (start_of mask n f k))
       (zero-add k) in
-      let joined : (((done ++ (offset_bytes mask v ++ left)) ++ all) ++ after) ≡ done ++ (offset_bytes mask v ++ (left ++ (all ++ after))) = simp append_assoc in
+      let joined : (((done ++ (offset_bytes mask v ++ left)) ++ all) ++ after) ≡ done ++ (offset_bytes mask v ++ (left ++ (all ++ after))) =
+      simp append_assoc in
       let whole : before ++ (block_of tag mask n f ++ after) ≡ (head ++ done) ++ (offset_bytes mask v ++ (left ++ (all ++ after))) =
       around (table_from mask f 0 n at ++ all)
       ∙ ap (λ (q : List ℕ). head ++ ((q ++ all) ++ after)) t

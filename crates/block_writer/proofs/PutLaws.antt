@@ -1,12 +1,7 @@
 -- Laws of a list stored over a part of another.
-use mathlib.Core.Path.{◌≡◌, sym, ap, ap₂, ◌∙◌}
-use mathlib.Core.List.{List, [], ◌∷◌, ◌++◌, append_assoc, append-nil}
-use Prim.Native.Nat.{ℕ, zero, suc, ◌+◌, ◌-◌, ◌≤◌}
-use native.Mathlib.Nat.{suc-add, zero-add}
-use native.Mathlib.Omega.{arith}
-use lib.ListN.{length, take, drop, length-append, length-drop, drop_of_length-le}
+use Rattle.std.proofs.Common.{◌≡◌, sym, ap, ap₂, ◌∙◌, List, [], ◌∷◌, ◌++◌, append_assoc, append-nil, ℕ, zero, suc, ◌+◌, ◌-◌, ◌≤◌, suc-add, zero-add, arith, length, take, drop, length-append, length-drop, drop_of_length-le, take_all, drop-drop, take_at, drop_at, take-take, length-take-le}
 use borrow.Rule.Slice.PartMut.{put_mid}
-use lib.Seq.{sets, take_all, take-nil, drop-drop, take-append-le, drop-append-le, take_at, drop_at, take-take, length-take-le}
+use lib.Seq.{sets, take-nil, take-append-le, drop-append-le}
 use Rattle.number.proofs.StoreLaws.{sets_is}
 use Rattle.number.specs.Buffer.{over}
 use Rattle.strip_writer.proofs.BitWriterLaws.{further}

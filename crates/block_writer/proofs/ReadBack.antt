@@ -1,16 +1,7 @@
 -- Demand 2, of the writers: "Pictures and planes that we write are exactly the bytes of [document 01's] writing rule, and read back as
 -- the rows given." That the bytes are the rule's is what the calls' contracts say; here is that they read back, by the reader's own
 -- definitions: crate table's test of a block, its strips, its pixels and its mask bytes.
-use mathlib.Core.Path.{◌≡◌, refl, sym, ap, ◌∙◌, subst}
-use mathlib.Core.Bool.{Bool, true, false, ◌&&◌, cond}
-use mathlib.Core.List.{List, [], ◌++◌, append-nil}
-use Prim.Native.Nat.{ℕ, ◌+◌, ◌-◌, ◌*◌, ◌/◌, ◌%◌, ◌^◌, ◌≤◌, ◌<◌}
-use native.Mathlib.Nat.{zero-add}
-use native.Mathlib.Omega.{arith}
-use lib.ListN.{length, get_or, take, drop}
-use lib.Seq.{take_at}
-use lib.Dec.{leb, ltb, lit<}
-use borrow.Author.Tests.{leb-true, ltb-false}
+use Rattle.std.proofs.Common.{◌≡◌, refl, sym, ap, ◌∙◌, subst, Bool, true, false, ◌&&◌, cond, List, [], ◌++◌, append-nil, ℕ, ◌+◌, ◌*◌, ◌/◌, ◌%◌, ◌^◌, ◌≤◌, ◌<◌, zero-add, arith, length, get_or, take, drop, take_at, leb, ltb, lit<, leb-true, ltb-false}
 use Rattle.number.proofs.BoolLaws.{both}
 use Rattle.number.specs.Buffer.{over}
 use Rattle.table.specs.Table.{table_right}
@@ -196,27 +187,28 @@ module _ (w h : ℕ) (rows d e : List ℕ) (len : ℕ) where
         let k = smap-accepted.allowed in
         omega (arith, smap-accepted.size, length-smap (w / 8) h rows k.one k.high (omega (arith, k.narrow)))
 
-  module _ (k : ℕ) (answer : Block len ≡ answer_of (plane_outcome k w h rows (length d))) (target : e ≡ target_after (plane_outcome k w h rows (length d)) d) where
-    pub plane-accepted : Accepted (plane_tag k) true w h rows d e len × (k ≤ 4)
-    unfolding plane_outcome
-    plane-accepted =
-        let q = tested (sizes_allowed w h && (leb 1 k && leb k 4)) (plane_tag k) true w h rows d e len answer target in
-        let two = both (sizes_allowed w h) (leb 1 k && leb k 4) q.0 in
-        (q.1 (sizes w h two.0), leb-true k 4 (both (leb 1 k) (leb k 4) two.1).1)
+  module _ (k : ℕ) (answer : Block len ≡ answer_of (plane_outcome k w h rows (length d))) (target : e ≡ target_after (plane_outcome k w h rows (length d)) d)
+    where
+      pub plane-accepted : Accepted (plane_tag k) true w h rows d e len × (k ≤ 4)
+      unfolding plane_outcome
+      plane-accepted =
+          let q = tested (sizes_allowed w h && (leb 1 k && leb k 4)) (plane_tag k) true w h rows d e len answer target in
+          let two = both (sizes_allowed w h) (leb 1 k && leb k 4) q.0 in
+          (q.1 (sizes w h two.0), leb-true k 4 (both (leb 1 k) (leb k 4) two.1).1)
 
-    -- the block ZP0k that an accepted call has left at the front of its target e
-    pub plane-call-reads : PlaneReads k (w / 8) h rows e 0 len
-    plane-call-reads =
-        let r = plane-accepted.0.allowed in
-        at_target (plane_tag k) true w h rows d e len plane-accepted.0 (λ q z. PlaneReads k (w / 8) h rows q 0 z)
-        (plane-reads_in (w / 8) h rows (omega (arith, r.narrow)) r.one r.high k plane-accepted.1 [] (drop len d))
+      -- the block ZP0k that an accepted call has left at the front of its target e
+      pub plane-call-reads : PlaneReads k (w / 8) h rows e 0 len
+      plane-call-reads =
+          let r = plane-accepted.0.allowed in
+          at_target (plane_tag k) true w h rows d e len plane-accepted.0 (λ q z. PlaneReads k (w / 8) h rows q 0 z)
+          (plane-reads_in (w / 8) h rows (omega (arith, r.narrow)) r.one r.high k plane-accepted.1 [] (drop len d))
 
-    pub plane-call-reads_in : (before after : List ℕ)
-        → PlaneReads k (w / 8) h rows (before ++ (take len e ++ after)) (length before) (length before + len)
-    plane-call-reads_in before after =
-        let r = plane-accepted.0.allowed in
-        at_front (plane_tag k) true w h rows d e len plane-accepted.0 (λ q z. PlaneReads k (w / 8) h rows q (length before) z) before after
-        (plane-reads_in (w / 8) h rows (omega (arith, r.narrow)) r.one r.high k plane-accepted.1 before after)
+      pub plane-call-reads_in : (before after : List ℕ)
+          → PlaneReads k (w / 8) h rows (before ++ (take len e ++ after)) (length before) (length before + len)
+      plane-call-reads_in before after =
+          let r = plane-accepted.0.allowed in
+          at_front (plane_tag k) true w h rows d e len plane-accepted.0 (λ q z. PlaneReads k (w / 8) h rows q (length before) z) before after
+          (plane-reads_in (w / 8) h rows (omega (arith, r.narrow)) r.one r.high k plane-accepted.1 before after)
 
-    pub plane-short : len < 2 ^ 16
-    plane-short = short (plane_tag k) true w h rows d e len plane-accepted.0
+      pub plane-short : len < 2 ^ 16
+      plane-short = short (plane_tag k) true w h rows d e len plane-accepted.0

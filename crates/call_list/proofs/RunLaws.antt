@@ -1,16 +1,7 @@
 -- Laws of runs: a room's refusal is 1 to 8 and a call's number at most 13; what stands at a place of the numbers. Assumes nothing.
-use Prim.Native.Nat.{ℕ, zero, suc, ◌+◌, ◌≤◌, ◌<◌}
-use mathlib.Core.Path.{◌≡◌, refl, sym, ap, ◌∙◌}
-use mathlib.Core.Bool.{Bool, true, false, cond, not, ◌&&◌}
-use mathlib.Core.List.{List, [], ◌∷◌}
+use Rattle.std.proofs.Common.{ℕ, zero, suc, ◌+◌, ◌≤◌, ◌<◌, ◌≡◌, refl, sym, ap, ◌∙◌, Bool, true, false, cond, not, ◌&&◌, List, [], ◌∷◌, arith, add-one, eqb, leb, length, get_or, set, length-set, get_or-set_same, get_or-set_other}
 use mathlib.Core.Logic.{by_cases}
-use native.Mathlib.Omega.{arith}
 use native.Mathlib.Decide.{ℕ_discrete}
-use native.Mathlib.Numerals.{add-one}
-use lib.Dec.{eqb, leb}
-use lib.ListN.{length, get_or, set, length-set}
-use lib.Seq.{get_or-set_same, get_or-set_other}
-use Rattle.table.specs.Test.{number}
 use Rattle.table.specs.declared.Test as table
 use Rattle.table.specs.declared.Test.TheVariants as test
 use Rattle.block.specs.Tree.{well_formed}

@@ -1,10 +1,7 @@
 -- A cast of four worked out, byte for byte, and each refusal (change request 7). The room has 8 by 2 pixels and one plane, whose bits hide (0, 0), (1, 0)
 -- and (3, 1) from those behind it; the transparent index is 7. Assumes nothing.
-use mathlib.Core.Path.{◌≡◌, refl}
-use mathlib.Core.List.{List, [], ◌∷◌}
-use Prim.Native.Nat.{ℕ}
+use Rattle.std.proofs.Common.{◌≡◌, refl, List, [], ◌∷◌, ℕ, replicate}
 use lib.IntN.{ℤ, pos, negsuc}
-use lib.ListN.{replicate}
 use Rattle.grid.specs.Grid.{upd}
 use Rattle.actor.specs.Sizes.{sizes_fit, picture_fits, buffers_fit}
 use Rattle.actor.specs.Hidden.{mask_bit, hidden_at}
@@ -50,8 +47,8 @@ list-after = refl
 -- plane; `high_id` covers 33, names no plane, and its second row is below the room
 frame-after : cast_frame (number_in handed_in frame masks pictures 8 2 1) masks pictures 8 2 1 7 handed_in frame
     ≡ 12 ∷ 21 ∷ 22 ∷ 0 ∷ 0 ∷ 0 ∷ 0 ∷ 0 ∷ 15 ∷ 16 ∷ 255 ∷ 1 ∷ 41 ∷ 42 ∷ 1 ∷ 1 ∷ 98 ∷ 99 ∷ []
-unfolding cast_number frame_number first_bad record_number sizes_fit picture_fits cast_frame sort_of insert_of before_of stamp_all stamp_frame stamp_number buffers_fit upd
-    stamped blended hidden_at mask_bit
+unfolding cast_number frame_number first_bad record_number sizes_fit picture_fits cast_frame sort_of insert_of before_of stamp_all stamp_frame stamp_number
+    buffers_fit upd stamped blended hidden_at mask_bit
 frame-after = refl
 
 -- ---- refusals

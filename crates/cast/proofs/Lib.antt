@@ -8,5 +8,4 @@ pub mod SweptLaws
 pub mod HeldLaws
 pub mod CallLaws
 pub mod Rounds
-pub mod Lending
 mod Examples

@@ -1,14 +1,6 @@
 -- The number of a call as one chain of tests, and what it says of the records where none is bad, and of the first bad one. Assumes nothing.
-use mathlib.Core.Bool.{Bool, true, false, cond, ◌&&◌}
-use mathlib.Core.List.{List, [], ◌∷◌}
-use mathlib.Core.Logic.{◌↔◌}
-use mathlib.Core.Path.{◌≡◌, refl, sym, ap, ◌∙◌}
-use Prim.Native.Nat.{ℕ, zero, suc, ◌*◌, ◌≤◌, ◌<◌}
-use native.Mathlib.Nat.{le_of_suc-le-suc, not-suc-le-zero}
-use native.Mathlib.Omega.{arith}
-use borrow.Author.Tests.{ltb-false, leb-true, le-ltb, le-leb, eqb-true, eqb-false, eq-eqb, ne_eqb}
-use lib.Dec.{ltb, leb, eqb}
-use lib.ListN.{length, get_or}
+use Rattle.std.proofs.Common.{Bool, true, false, cond, ◌&&◌, List, [], ◌∷◌, ◌↔◌, ◌≡◌, refl, sym, ap, ◌∙◌, ℕ, zero, suc, ◌*◌, ◌≤◌, ◌<◌, le_of_suc-le-suc, not-suc-le-zero, arith, ltb-false, leb-true, le-ltb, le-leb, eqb-true, eq-eqb, ne_eqb, ltb, leb, eqb, length, get_or}
+use borrow.Author.Tests.{eqb-false}
 use Rattle.actor.specs.Sizes.{sizes_fit, mask_bytes}
 use Rattle.actor.proofs.SizeLaws.{none-refused}
 use Rattle.number.proofs.BoolLaws.{both}

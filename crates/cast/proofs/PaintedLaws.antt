@@ -1,12 +1,5 @@
 -- The stamps of a list one by one: that each is accepted, and what they leave at one byte of the frame. Assumes nothing.
-use mathlib.Core.Bool.{true}
-use mathlib.Core.List.{List, [], ◌∷◌}
-use mathlib.Core.Path.{◌≡◌, refl, ◌∙◌}
-use Prim.Native.Nat.{ℕ, zero, suc, ◌+◌, ◌*◌, ◌≤◌, ◌<◌}
-use native.Mathlib.Nat.{le_of_suc-le-suc, not-suc-le-zero}
-use native.Mathlib.Omega.{arith}
-use borrow.Author.Tests.{leb-true, le-leb}
-use lib.ListN.{length, get_or, drop}
+use Rattle.std.proofs.Common.{true, List, [], ◌∷◌, ◌≡◌, refl, ◌∙◌, ℕ, zero, suc, ◌+◌, ◌*◌, ◌≤◌, ◌<◌, le_of_suc-le-suc, not-suc-le-zero, arith, leb-true, le-leb, length, get_or, drop}
 use Rattle.actor.specs.Sizes.{sizes_fit, picture_fits, mask_bytes, buffers_fit}
 use Rattle.actor.specs.Stamp.{stamp_number, stamp_frame}
 use Rattle.actor.proofs.ActorLaws.{same_length}

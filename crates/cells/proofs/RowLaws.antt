@@ -1,12 +1,7 @@
 -- Writes along a row of a grid: cells whose old values were all read before the first of them was written, and a run beside a run.
 -- Assumes nothing.
-use mathlib.Core.Path.{◌≡◌, sym, ap, ◌∙◌}
-use mathlib.Core.List.{List}
-use Prim.Native.Nat.{ℕ, ◌+◌, ◌*◌, ◌/◌, ◌%◌, ◌≤◌, ◌<◌}
-use native.Mathlib.Nat.{add-zero}
-use native.Mathlib.Omega.{arith}
+use Rattle.std.proofs.Common.{◌≡◌, sym, ap, ◌∙◌, List, ℕ, ◌+◌, ◌*◌, ◌/◌, ◌%◌, ◌≤◌, ◌<◌, add-zero, arith, length, get_or, set}
 use lib.Arith.{digits_mod}
-use lib.ListN.{length, get_or, set}
 use Rattle.grid.specs.Grid.{upd, rowed, boxed}
 use Rattle.grid.proofs.Upd.{get_or-upd, upd_then}
 use Rattle.grid.proofs.Box.{within-hi, within_cases, rowed_out, row-none, row_write, boxed_off, box_point, beside_point}

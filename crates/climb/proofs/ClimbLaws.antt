@@ -1,14 +1,7 @@
 -- Laws of the climb's definitions: a state looked up in a shown list, what a parent's state lets, and one link of the climb.
-use Prim.Native.Nat.{ℕ, zero, suc, ◌+◌, ◌-◌, ◌/◌, ◌%◌, ◌≤◌, ◌<◌}
-use mathlib.Core.Path.{◌≡◌, refl, sym, ◌∙◌}
-use mathlib.Core.Bool.{Bool, true, false, cond, not, ◌&&◌}
-use mathlib.Core.List.{List}
-use native.Mathlib.Numerals.{add-one}
-use native.Mathlib.Omega.{arith}
-use borrow.Author.Tests.{eq-eqb, ne_eqb, le-leb, lt-leb}
-use lib.Dec.{eqb, leb}
-use lib.ListN.{get_or, take, drop, length}
-use lib.Seq.{drop-cons, drop-length, length-take-le, get_or-take}
+use Rattle.std.proofs.Common.{ℕ, zero, suc, ◌+◌, ◌-◌, ◌/◌, ◌%◌, ◌≤◌, ◌<◌, ◌≡◌, refl, sym, ◌∙◌, Bool, true, false, cond, not, ◌&&◌, List, add-one, arith, eq-eqb, ne_eqb, le-leb, eqb, leb, get_or, take, drop, length, drop-cons, length-take-le, get_or-take}
+use borrow.Author.Tests.{lt-leb}
+use lib.Seq.{drop-length}
 use Rattle.scene.specs.declared.Entry.{Entry}
 use Rattle.climb.specs.Objects.{Objects}
 use Rattle.climb.specs.Climb.{state_of, lets, is_open}

@@ -1,13 +1,9 @@
 -- The climb's count of links is no rule of its own: with as many links as there are objects, a chain is open exactly if it is open with more
 -- links, for an open chain passes no object twice (document 01: "a chain that never reaches 0 closes it").
-use Prim.Native.Nat.{ℕ, zero, suc, ◌+◌, ◌-◌, ◌≤◌, ◌<◌}
-use mathlib.Core.Path.{◌≡◌, refl, sym, ap, ◌∙◌, subst}
-use mathlib.Core.Bool.{Bool, true, false, cond, ◌&&◌, true≢false}
+use Rattle.std.proofs.Common.{ℕ, zero, suc, ◌+◌, ◌-◌, ◌≤◌, ◌<◌, ◌≡◌, refl, sym, ap, ◌∙◌, subst, Bool, true, false, cond, ◌&&◌, true≢false, arith, eqb-true, eq-eqb, ne_eqb, leb-true, le-leb, eqb, leb}
 use mathlib.Core.Logic.{by_cases}
 use native.Mathlib.Decide.{ℕ_discrete}
-use native.Mathlib.Omega.{arith}
-use borrow.Author.Tests.{eqb-true, eqb-false, eq-eqb, ne_eqb, leb-true, le-leb}
-use lib.Dec.{eqb, leb}
+use borrow.Author.Tests.{eqb-false}
 use Rattle.number.proofs.BoolLaws.{both}
 use Rattle.climb.specs.Objects.{Objects}
 use Rattle.climb.specs.Climb.{lets, is_open}

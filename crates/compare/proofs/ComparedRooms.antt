@@ -2,10 +2,7 @@
 -- left strip is coded, which is no difference; the middle one has one pixel 6; the right one has an unused byte behind it, which is no difference either,
 -- and a row of plane 1. B declares one plane, so its ZP02, which is no right block, is not looked at. Then each refusal, in the rules' order.
 -- Assumes nothing.
-use mathlib.Core.Path.{◌≡◌, refl}
-use mathlib.Core.List.{List, [], ◌∷◌, ◌++◌}
-use Prim.Native.Nat.{ℕ}
-use lib.ListN.{length}
+use Rattle.std.proofs.Common.{◌≡◌, refl, List, [], ◌∷◌, ◌++◌, ℕ, length}
 use Rattle.number.specs.Buffer.{over}
 use Rattle.number.specs.Number.{le16_bytes}
 use Rattle.bits.specs.Bits.{low_bits, bits_of}
@@ -87,17 +84,17 @@ filled =
     ++ (0x02 ∷ 0x00 ∷ 0x00 ∷ 0x00 ∷ 0x01 ∷ 0x00 ∷ 0x00 ∷ 0x00 ∷ 0xEE ∷ [])
 
 pub compared_rooms : (answer_of (compared_of room_a room_b (length lent)) ≡ Listed 2) × (list_after (compared_of room_a room_b (length lent)) lent ≡ filled)
-unfolding low_bits bits_of decode rows_of five_from kind_of placed raw_of coded_of strip_of container block_end walk run block_ok well_formed tagged payload each_has
-    offset_at offset_right offsets_right table_right body_end body_of strip_at rows_at pixel_at mask_at strip_test leftmost block_test headed_in background_in needed_in
-    objects_right trns_in sizes_right room_of sized head_of plane_test smap_and_planes_test pictures_test short after_head room_test background mask differing declared pixels_differing
-    plane_differs planes_differing listed_to list_bytes outcome_of compared_of over le16_bytes
+unfolding low_bits bits_of decode rows_of five_from kind_of placed raw_of coded_of strip_of container block_end walk run block_ok well_formed tagged payload
+    each_has offset_at offset_right offsets_right table_right body_end body_of strip_at rows_at pixel_at mask_at strip_test leftmost block_test headed_in
+    background_in needed_in objects_right trns_in sizes_right room_of sized head_of plane_test smap_and_planes_test pictures_test short after_head room_test
+    background mask differing declared pixels_differing plane_differs planes_differing listed_to list_bytes outcome_of compared_of over le16_bytes
 compared_rooms = (refl, refl)
 
 -- a place fewer: 4; another size: 16, also where the list has no place; B's number before 16, and A's before B's
 pub compared_refused : (compared_of room_a room_b 15 ≡ no 4) × (compared_of room_a narrow 0 ≡ no 16) × (compared_of room_a unknown_code 0 ≡ no 6)
     × (compared_of room_a empty_room 0 ≡ no 2) × (compared_of [] empty_room 0 ≡ no 1)
-unfolding low_bits bits_of decode rows_of five_from kind_of placed raw_of coded_of strip_of container block_end walk run block_ok well_formed tagged payload each_has
-    offset_at offset_right offsets_right table_right body_end body_of strip_at rows_at pixel_at mask_at strip_test leftmost block_test headed_in background_in needed_in
-    objects_right trns_in sizes_right room_of sized head_of plane_test smap_and_planes_test pictures_test short after_head room_test background mask differing declared pixels_differing
-    plane_differs planes_differing listed_to list_bytes outcome_of compared_of over le16_bytes
+unfolding low_bits bits_of decode rows_of five_from kind_of placed raw_of coded_of strip_of container block_end walk run block_ok well_formed tagged payload
+    each_has offset_at offset_right offsets_right table_right body_end body_of strip_at rows_at pixel_at mask_at strip_test leftmost block_test headed_in
+    background_in needed_in objects_right trns_in sizes_right room_of sized head_of plane_test smap_and_planes_test pictures_test short after_head room_test
+    background mask differing declared pixels_differing plane_differs planes_differing listed_to list_bytes outcome_of compared_of over le16_bytes
 compared_refused = (refl, refl, refl, refl, refl)

@@ -1,14 +1,8 @@
 -- Only decoded content counts (change request 1): rooms of the same content compare alike, and with each other give an empty list; and the order of the
 -- two rooms doesn't matter. Assumes nothing.
-use Prim.Native.Nat.{ℕ, zero, suc, ◌+◌, ◌*◌, ◌-◌, ◌/◌, ◌%◌, ◌^◌, ◌≤◌, ◌<◌, max}
-use mathlib.Core.Path.{◌≡◌, refl, sym, ap, ap₂, ◌∙◌}
-use mathlib.Core.Bool.{Bool, true, false, cond, not}
-use mathlib.Core.List.{List, []}
-use lib.Dec.{eqb}
-use mathlib.Core.Logic.{◌↔◌, by_cases}
-use native.Mathlib.Nat.{add-zero}
+use Rattle.std.proofs.Common.{ℕ, zero, suc, ◌+◌, ◌*◌, ◌-◌, ◌/◌, ◌%◌, ◌^◌, ◌≤◌, ◌<◌, max, ◌≡◌, refl, sym, ap, ap₂, ◌∙◌, Bool, true, false, cond, not, List, [], eqb, ◌↔◌, add-zero, arith}
+use mathlib.Core.Logic.{by_cases}
 use native.Mathlib.Decide.{dec_le}
-use native.Mathlib.Omega.{arith}
 use borrow.Author.Tests.{lt-leb}
 use Rattle.room.specs.Test.{strips}
 use Rattle.room.specs.declared.Room.{Room}
@@ -67,7 +61,8 @@ module _ (m : Rooms) (k : ℕ) where
       past : (p ≤ most m → ⊥) → (planes_differing m k (most m) / 2 ^ (p - 1) % 2 ≡ 1) ↔ ((p ≤ most m) × PlaneDiffers m p k)
       past far =
           let all = planes-past (p - 1) (omega (arith, far)) in
-          let none : planes_differing m k (most m) / 2 ^ (p - 1) % 2 ≡ 0 = rw all at (bit_none (p - 1) (planes_differing m k (p - 1)) (planes-below m k (p - 1))) in (
+          let none : planes_differing m k (most m) / 2 ^ (p - 1) % 2 ≡ 0 =
+          rw all at (bit_none (p - 1) (planes_differing m k (p - 1)) (planes-below m k (p - 1))) in (
             λ e. absurd (omega (arith, none, e)),
             λ d. absurd (far d.0),
           )
@@ -85,7 +80,8 @@ module _ (m m' : Rooms) where
       sym (planes-past m k (max (most m) (most m')) (omega arith)) ∙ planes-same k (max (most m) (most m')) same
       ∙ planes-past m' k (max (most m) (most m')) (omega arith)
 
-  at_same : (k : ℕ) → pixels_differing m k ≡ pixels_differing m' k → planes_differing m k (most m) ≡ planes_differing m' k (most m') → difference_at m k ≡ difference_at m' k
+  at_same : (k : ℕ) → pixels_differing m k ≡ pixels_differing m' k → planes_differing m k (most m) ≡ planes_differing m' k (most m')
+      → difference_at m k ≡ difference_at m' k
   at_same k p q = λ i. record { strip = k; pixels = p i; planes = q i }
 
 module _ (m m' : Rooms) (same-a : SameContent m.a m.ra m'.a m'.ra) (same-b : SameContent m.b m.rb m'.b m'.rb)

@@ -1,16 +1,9 @@
 -- Laws of a count of places that differ, and of the planes' bits (change request 1). Assumes nothing.
-use Prim.Native.Nat.{ℕ, zero, suc, ◌+◌, ◌*◌, ◌-◌, ◌/◌, ◌%◌, ◌^◌, ◌≤◌, ◌<◌}
-use mathlib.Core.Path.{◌≡◌, refl, sym, ap, ap₂, ◌∙◌}
-use mathlib.Core.Bool.{Bool, true, false, cond}
+use Rattle.std.proofs.Common.{ℕ, zero, suc, ◌+◌, ◌*◌, ◌-◌, ◌/◌, ◌%◌, ◌^◌, ◌≤◌, ◌<◌, ◌≡◌, refl, sym, ap, ap₂, ◌∙◌, Bool, true, false, cond, eqb, mod-lt, add-zero, add-mul, pow-suc, div-add-mod', add-one, arith, pow-add, pow_pos, eq-eqb, ne_eqb, eqb-true}
 use mathlib.Core.Logic.{by_cases}
-use lib.Dec.{eqb}
-use native.Mathlib.Nat.{mod-lt, add-zero, add-mul, pow-suc, div-add-mod'}
-use native.Mathlib.Numerals.{add-one}
 use native.Mathlib.Decide.{ℕ_discrete}
-use native.Mathlib.Omega.{arith}
 use lib.Arith.{digits_div}
-use lib.Pow.{pow-add, pow_pos}
-use borrow.Author.Tests.{eq-eqb, ne_eqb, eqb-true, eqb-false}
+use borrow.Author.Tests.{eqb-false}
 use Rattle.compare.specs.Compare.{differing, strip_pixel, pixels_differing, planes_differing, plane_differs, Rooms}
 
 module _ (f g : ℕ → ℕ) where

@@ -1,13 +1,7 @@
 -- Laws of the list of a comparison (change request 1): a strip stands in it exactly if it differs, left to right, with its counts. Assumes nothing.
-use Prim.Native.Nat.{ℕ, zero, suc, ◌+◌, ◌*◌, ◌-◌, ◌/◌, ◌%◌, ◌^◌, ◌≤◌, ◌<◌}
-use mathlib.Core.Path.{◌≡◌, refl, sym, ap, ◌∙◌, subst}
-use mathlib.Core.Bool.{Bool, true, false, cond, not, ◌||◌, false≢true}
-use mathlib.Core.List.{List, [], ◌∷◌, ◌++◌, append-nil}
-use mathlib.Core.Logic.{◌↔◌, ◌⊎◌, inl, inr}
-use lib.Dec.{eqb}
-use lib.Pow.{pow_pos}
-use native.Mathlib.Omega.{arith}
-use borrow.Author.Tests.{eq-eqb, ne_eqb, eqb-true, eqb-false}
+use Rattle.std.proofs.Common.{ℕ, zero, suc, ◌+◌, ◌*◌, ◌/◌, ◌%◌, ◌^◌, ◌≤◌, ◌<◌, ◌≡◌, refl, sym, ap, ◌∙◌, subst, Bool, true, false, cond, not, ◌||◌, List, [], ◌∷◌, ◌++◌, append-nil, ◌↔◌, ◌⊎◌, inl, inr, eqb, pow_pos, arith, eq-eqb, ne_eqb, eqb-true}
+use mathlib.Core.Bool.{false≢true}
+use borrow.Author.Tests.{eqb-false}
 use Rattle.number.proofs.BoolLaws.{or_right}
 use Rattle.compare.specs.Compare.{differing, strip_pixel, declared, Rooms, Difference, pixels_differing, plane_differs, planes_differing, most, difference_at, is_different}
 use Rattle.compare.specs.Compare.{next, listed_to}

@@ -1,13 +1,7 @@
 -- Laws of the list's places: how many there are, and the bytes that they take. Assumes nothing.
-use Prim.Native.Nat.{ℕ, zero, suc, ◌+◌, ◌-◌, ◌*◌, ◌≤◌, ◌<◌}
-use mathlib.Core.Path.{◌≡◌, refl, sym, ap, ap₂, ◌∙◌}
-use mathlib.Core.Bool.{Bool, true, false, cond}
-use mathlib.Core.List.{List, [], ◌∷◌, ◌++◌, append_assoc}
-use native.Mathlib.Nat.{le_of_suc-le-suc}
-use native.Mathlib.Numerals.{add-one}
-use native.Mathlib.Omega.{arith}
-use lib.ListN.{length, get_or, length-append, get_or-append}
-use lib.Seq.{sets, get_or-append-add}
+use Rattle.std.proofs.Common.{ℕ, zero, suc, ◌+◌, ◌-◌, ◌*◌, ◌≤◌, ◌<◌, ◌≡◌, refl, sym, ap, ap₂, ◌∙◌, Bool, true, false, cond, List, [], ◌∷◌, ◌++◌, append_assoc, le_of_suc-le-suc, add-one, arith, length, get_or, length-append, get_or-append-add}
+use lib.ListN.{get_or-append}
+use lib.Seq.{sets}
 use Rattle.number.specs.Number.{le16_bytes}
 use Rattle.number.specs.Buffer.{over}
 use Rattle.number.proofs.StoreLaws.{sets-append, sets_is}

@@ -1,9 +1,5 @@
 -- Computed examples: the starts of a payload with five records.
-use mathlib.Core.Path.{◌≡◌, refl}
-use mathlib.Core.Bool.{true, false}
-use mathlib.Core.List.{List, [], ◌∷◌}
-use Prim.Native.Nat.{ℕ}
-use lib.ListN.{replicate}
+use Rattle.std.proofs.Common.{◌≡◌, refl, true, false, List, [], ◌∷◌, ℕ, replicate}
 use Rattle.number.specs.Number.{le32_bytes}
 use Rattle.limbs.specs.Limb.{limb_at, put_limb, each_limb, all, place_right, limb_right, limbs_right}
 use Rattle.limbs.proofs.Examples.{commands, lent, still, bytes, bent}
@@ -27,12 +23,13 @@ answer : (chore direction : ℕ) → Started
 answer chore direction = started_of payload still 0 5 30 chore direction
 
 answers : answer 0 0 ∷ answer 0 1 ∷ answer 0 2 ∷ answer 0 3 ∷ answer 1 0 ∷ answer 1 1 ∷ [] ≡ Set ∷ Undefined ∷ Refused 15 ∷ Undefined ∷ Set ∷ Refused 15 ∷ []
-unfolding answer still lent payload commands started_of start_number numbers_right limbs_right all limb_right place_right limb_at offset_right record_right entry_of
-    entry_place entry_at defined
+unfolding answer still lent payload commands started_of start_number numbers_right limbs_right all limb_right place_right limb_at offset_right record_right
+    entry_of entry_place entry_at defined
 answers = refl
 
 -- too few limbs; a chore, a direction, a count, a table and two command offsets that are wrong; an empty stream; a window past the stream
-refusals : started_of payload (replicate 255 0) 0 5 5 244 4 ∷ started_of payload still 0 5 30 244 0 ∷ started_of payload still 0 5 30 0 4 ∷ started_of payload still
+refusals : started_of payload (replicate 255 0) 0 5 5 244 4 ∷ started_of payload still 0 5 30 244 0 ∷ started_of payload still 0 5 30 0 4 ∷ started_of payload
+    still
     0 0 30 0 0
     ∷ started_of payload still 0 15 30 0 0 ∷ started_of payload still 0 5 5 0 0 ∷ started_of payload still 0 5 36 0 1 ∷ started_of payload still 0 5 35 0 1 ∷
     started_of payload still 0 5 31 0 0 ∷ []
@@ -45,20 +42,20 @@ refusals = refl
 
 -- the record at 10 sets limbs 0 and 2; limb 0 was stopped and stays so
 setting : start_bytes payload (lent (bytes 0 1 0 0 0 0 0 0) (bytes 1 0 0 1 18 2 0 1)) 0 5 30 0 0 ≡ lent (bytes 1 1 0 0 0 3 0 0) (bytes 1 0 1 0 0 2 3 3)
-unfolding lent bytes payload commands start_bytes each_limb put_limb le32_bytes begun_limb start_number numbers_right limbs_right all limb_right place_right limb_at
-    offset_right record_right entry_of entry_place entry_at defined
+unfolding lent bytes payload commands start_bytes each_limb put_limb le32_bytes begun_limb start_number numbers_right limbs_right all limb_right place_right
+    limb_at offset_right record_right entry_of entry_place entry_at defined
 setting = refl
 
 -- the record at 20 idles limb 2 and leaves limb 0
 idling : start_bytes payload (lent (bytes 1 0 0 1 18 3 0 1) (bytes 1 1 1 1 5 2 3 4)) 0 5 30 1 0 ≡ lent (bytes 1 0 0 1 18 3 0 1) (bytes 0 1 0 0 0 0 0 0)
-unfolding lent bytes payload commands start_bytes each_limb put_limb le32_bytes begun_limb start_number numbers_right limbs_right all limb_right place_right limb_at
-    offset_right record_right entry_of entry_place entry_at defined
+unfolding lent bytes payload commands start_bytes each_limb put_limb le32_bytes begun_limb start_number numbers_right limbs_right all limb_right place_right
+    limb_at offset_right record_right entry_of entry_place entry_at defined
 idling = refl
 
 -- a limb whose place is past its window is wrong for a start, also of an animation that is not defined
 wrong : start_number payload bent 0 5 30 0 0 ∷ start_number payload bent 0 5 30 0 1 ∷ [] ≡ 15 ∷ 15 ∷ []
-unfolding bent lent bytes payload commands start_number numbers_right limbs_right all limb_right place_right limb_at offset_right record_right entry_of entry_place
-    entry_at defined
+unfolding bent lent bytes payload commands start_number numbers_right limbs_right all limb_right place_right limb_at offset_right record_right entry_of
+    entry_place entry_at defined
 wrong = refl
 
 -- a start that is refused and one of an animation that is not defined leave the bytes

@@ -1,12 +1,6 @@
 -- Laws of the start of an animation.
-use mathlib.Core.Path.{◌≡◌, refl, sym, ap, ◌∙◌}
-use mathlib.Core.Bool.{Bool, true, false, ◌&&◌, not, cond}
-use mathlib.Core.List.{List}
-use Prim.Native.Nat.{ℕ, ◌+◌, ◌*◌, ◌-◌, ◌<◌, ◌≤◌}
-use native.Mathlib.Omega.{arith}
-use borrow.Author.Tests.{lt-ltb, le-ltb, le-leb, lt-leb, leb-true, ltb-true, ltb-false, eq-eqb, ne_eqb, not-true}
-use lib.Dec.{ltb, leb, eqb}
-use lib.ListN.{length, length-drop}
+use Rattle.std.proofs.Common.{◌≡◌, refl, sym, ap, ◌∙◌, Bool, true, false, ◌&&◌, not, cond, List, ℕ, ◌+◌, ◌*◌, ◌-◌, ◌<◌, ◌≤◌, arith, lt-ltb, le-ltb, le-leb, leb-true, ltb-true, ltb-false, eq-eqb, ne_eqb, ltb, leb, eqb, length, length-drop}
+use borrow.Author.Tests.{lt-leb, not-true}
 use Rattle.limbs.specs.Limb.{limbs_right, each_limb}
 use Rattle.limbs.specs.Tick.{command_right, stream}
 use Rattle.number.proofs.BoolLaws.{both}
@@ -167,7 +161,8 @@ module _ (s l : List ℕ) (t count v chore direction : ℕ) where
       start_undefined d = (rw (← e, eq-eqb _ _ z, ← eo, ← d), (sym z ∙ e, rw (← e, eq-eqb _ _ z, ← eo, ← d)))
 
       pub start-set : (m : List ℕ) → true ≡ defined s o → m ≡ each_limb (λ i. begun_limb (entry_of s (o - 6) i)) 16 l
-          → (Set ≡ started_of s l t count v chore direction) × ((0 ≡ start_number s l t count v chore direction) × (m ≡ start_bytes s l t count v chore direction))
+          → (Set ≡ started_of s l t count v chore direction)
+          × ((0 ≡ start_number s l t count v chore direction) × (m ≡ start_bytes s l t count v chore direction))
       unfolding started_of start_bytes
       start-set m d g = (rw (← e, eq-eqb _ _ z, ← eo, ← d), (sym z ∙ e, rw (← e, eq-eqb _ _ z, ← eo, ← d) g))
 

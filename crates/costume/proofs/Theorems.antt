@@ -1,11 +1,5 @@
 -- What an accepted start leaves, as a reader of document 01 asks for it: limb by limb, the bytes beside them, and that the next tick is accepted.
-use mathlib.Core.Path.{◌≡◌, refl, sym, ap, ◌∙◌}
-use mathlib.Core.Bool.{Bool, true, false, cond}
-use mathlib.Core.List.{List}
-use Prim.Native.Nat.{ℕ, ◌+◌, ◌*◌, ◌-◌, ◌<◌, ◌≤◌}
-use borrow.Author.Tests.{le-ltb, eqb-true}
-use lib.Dec.{eqb}
-use lib.ListN.{length, get_or}
+use Rattle.std.proofs.Common.{◌≡◌, refl, sym, ap, ◌∙◌, Bool, true, false, cond, List, ℕ, ◌+◌, ◌*◌, ◌-◌, ◌<◌, ◌≤◌, le-ltb, eqb-true, eqb, length, get_or}
 use Rattle.limbs.specs.declared.Limb.{Limb}
 use Rattle.limbs.specs.Limb.{limb_at, each_limb, limb_right, limbs_right}
 use Rattle.limbs.specs.Tick.{stream, tick_number}

@@ -1,9 +1,5 @@
 -- Demand 1 holds: a refused call leaves every lent byte and answers its number only.
-use Prim.Native.Nat.{ℕ}
-use mathlib.Core.Path.{◌≡◌, refl, ◌∙◌}
-use mathlib.Core.List.{List, []}
-use borrow.Author.Tests.{ne_eqb}
-use lib.ListN.{length}
+use Rattle.std.proofs.Common.{ℕ, ◌≡◌, refl, ◌∙◌, List, [], ne_eqb, length}
 use Rattle.room.specs.Test.{number_of, nothing}
 use Rattle.objects.specs.Record.{record_test, record_after}
 use Rattle.objects.specs.Object.{place_number, header_call, header_after, chosen_block}
@@ -42,7 +38,6 @@ use Rattle.kildegrom.specs.Word.{hidden_word, started_word, drawn_word, wrote_wo
 use Rattle.kildegrom.proofs.WordLaws.{number_back, value_back}
 use Rattle.limbs.proofs.Theorems.{tick_unchanged}
 use Rattle.load.specs.Load.{session_after, pixels_after, masks_after}
-use Rattle.scene.specs.Painting.{Room}
 use Rattle.scene.specs.declared.Call.{Call}
 use Rattle.scene.specs.Session.{State, called}
 use Rattle.session.proofs.CalledLaws.{called-refused}

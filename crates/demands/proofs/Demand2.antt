@@ -1,15 +1,8 @@
 -- Demand 2 holds, and what change requests 2 and 5 say of strips, by the laws of crates bits, limbs, costume, actor and block_writer and of the files
 -- beside this one.
-use mathlib.Core.Path.{◌≡◌, refl, sym, ap, ◌∙◌}
-use mathlib.Core.Bool.{Bool, true, false, cond, false≢true}
-use mathlib.Core.List.{List, ◌++◌}
-use mathlib.Core.Logic.{◌↔◌}
-use Prim.Native.Nat.{ℕ, ◌-◌, ◌/◌, ◌<◌}
-use native.Mathlib.Omega.{arith}
-use lib.Dec.{eqb}
-use lib.ListN.{length, drop}
+use Rattle.std.proofs.Common.{◌≡◌, refl, sym, ap, ◌∙◌, Bool, true, false, cond, List, ◌++◌, ◌↔◌, ℕ, ◌-◌, ◌/◌, ◌<◌, arith, eqb, length, drop, eq-eqb}
+use mathlib.Core.Bool.{false≢true}
 use Rattle.number.specs.Buffer.{over}
-use borrow.Author.Tests.{eq-eqb}
 use Rattle.bits.proofs.ReaderLaws as reader
 use Rattle.actor.specs.Hidden.{hidden_number, hidden_at, hidden_of, number, hides, value, answered}
 use Rattle.actor.proofs.ActorLaws as actor

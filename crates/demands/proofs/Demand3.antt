@@ -1,10 +1,5 @@
 -- Demand 3 holds, from every accepted load on and for every list of calls: crate play's theorem, said of the bytes.
-use Prim.Native.Nat.{ℕ}
-use mathlib.Core.Path.{◌≡◌, refl, sym, ap, ◌∙◌}
-use mathlib.Core.Bool.{Bool, true, false, cond}
-use mathlib.Core.List.{List, [], ◌∷◌, map}
-use lib.Dec.{eqb}
-use native.Mathlib.Omega.{arith}
+use Rattle.std.proofs.Common.{ℕ, ◌≡◌, refl, sym, ap, ◌∙◌, Bool, true, false, cond, List, [], ◌∷◌, map, eqb, arith}
 use Rattle.room.specs.declared.Room as bytes
 use Rattle.room.specs.declared.Tested.TheVariants.{Right}
 use Rattle.scene.specs.Painting.{Room}

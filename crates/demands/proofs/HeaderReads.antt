@@ -1,9 +1,5 @@
 -- What an accepted kg_header leaves: the fields of the record are the numbers of CDHD in the object's OBCD.
-use mathlib.Core.Path.{◌≡◌, refl, subst}
-use mathlib.Core.List.{List}
-use Prim.Native.Nat.{ℕ, ◌+◌, ◌*◌, ◌≤◌}
-use lib.ListN.{length, get_or}
-use native.Mathlib.Omega.{arith}
+use Rattle.std.proofs.Common.{◌≡◌, refl, subst, List, ℕ, ◌+◌, ◌*◌, ◌≤◌, length, get_or, arith}
 use Rattle.number.specs.Number.{le16, signed16}
 use Rattle.number.specs.Buffer.{over}
 use Rattle.block.specs.Tag.{tag-CDHD}
@@ -16,21 +12,7 @@ use Rattle.room.specs.declared.Tested.{Tested}
 use Rattle.room.specs.declared.Tested.TheVariants as tested
 use Rattle.objects.specs.declared.Place.{Place}
 use Rattle.objects.specs.declared.Place.TheVariants.{At, Refused}
-use Rattle.objects.specs.Object.{
-  payload_at,
-  cdhd_in,
-  cdhd_at,
-  object_block,
-  block_or_absent,
-  chosen_after,
-  chosen_block,
-  header_in,
-  header_place,
-  header_bytes,
-  place_number,
-  header_after,
-  header_call,
-}
+use Rattle.objects.specs.Object.{payload_at, cdhd_at, object_block, block_or_absent, chosen_after, chosen_block, header_in, header_place, header_bytes, place_number, header_after, header_call}
 use Rattle.demands.proofs.RefusalRooms.{Verdict, verdict, number_is}
 
 -- the fields of the record that holds a header's bytes

@@ -1,13 +1,7 @@
 -- A listing says what the calls say one by one: the record, and for each object its header, its name's place and the states that can be drawn.
-use Prim.Native.Nat.{ℕ, suc, ◌+◌, ◌-◌, ◌*◌, ◌/◌, ◌%◌, ◌^◌, ◌≤◌, ◌<◌}
-use mathlib.Core.Path.{◌≡◌, refl, sym, ap, ap₂, ◌∙◌, subst}
-use mathlib.Core.Bool.{Bool, true, false, cond, false≢true}
-use mathlib.Core.List.{List}
-use mathlib.Core.Logic.{◌⊎◌, inl, inr, ◌↔◌}
-use native.Mathlib.Omega.{arith}
-use borrow.Author.Tests.{le-ltb}
-use lib.ListN.{length, get_or, drop, length-append, length-drop, get_or-append}
-use lib.Seq.{get_or-append-add, get_or-drop}
+use Rattle.std.proofs.Common.{ℕ, suc, ◌+◌, ◌-◌, ◌*◌, ◌/◌, ◌%◌, ◌^◌, ◌≤◌, ◌<◌, ◌≡◌, refl, sym, ap, ap₂, ◌∙◌, subst, Bool, true, false, cond, List, ◌⊎◌, inl, inr, ◌↔◌, arith, le-ltb, length, get_or, drop, length-append, length-drop, get_or-append-add, get_or-drop}
+use mathlib.Core.Bool.{false≢true}
+use lib.ListN.{get_or-append}
 use Rattle.number.specs.Number.{le16, le32, le16_bytes, le32_bytes}
 use Rattle.number.specs.Buffer.{over}
 use Rattle.block.specs.Tag.{tag-CDHD}

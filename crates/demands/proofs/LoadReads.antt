@@ -1,14 +1,9 @@
 -- What a load leaves, byte by byte: pixels and mask bytes as the strips read, the session empty, and every other lent byte as it was.
-use mathlib.Core.Path.{◌≡◌, refl, sym, ap, ◌∙◌}
-use mathlib.Core.Bool.{Bool, true, false}
-use mathlib.Core.List.{List}
+use Rattle.std.proofs.Common.{◌≡◌, refl, sym, ap, ◌∙◌, Bool, true, false, List, ℕ, ◌+◌, ◌-◌, ◌*◌, ◌/◌, ◌%◌, ◌≤◌, ◌<◌, le-div_iff_mul-le, mul_comm, arith, length, get_or, replicate}
 use mathlib.Core.Logic.{by_cases}
-use Prim.Native.Nat.{ℕ, ◌+◌, ◌-◌, ◌*◌, ◌/◌, ◌%◌, ◌≤◌, ◌<◌}
-use native.Mathlib.Nat.{le-div_iff_mul-le, mul_comm}
 use native.Mathlib.Decide.{dec_lt}
-use native.Mathlib.Omega.{arith}
 use lib.Arith.{digits_div, digits_mod, digits_lt}
-use lib.ListN.{length, get_or, replicate, get_or-eq_default}
+use lib.ListN.{get_or-eq_default}
 use Rattle.number.specs.Buffer.{over}
 use Rattle.grid.specs.Grid.{upd, boxed}
 use Rattle.grid.proofs.Upd.{length-upd, get_or-upd}

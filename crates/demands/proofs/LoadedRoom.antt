@@ -1,9 +1,6 @@
 -- A load, byte for byte: a room of 16 by 2 pixels whose left strip is raw and whose right strip has a run (change request 5), and the pixels
 -- that kg_load leaves of it. The lent pixels have a byte more than the room needs, which stays.
-use mathlib.Core.Path.{◌≡◌, refl}
-use mathlib.Core.List.{List, [], ◌∷◌, ◌++◌}
-use Prim.Native.Nat.{ℕ}
-use lib.ListN.{replicate}
+use Rattle.std.proofs.Common.{◌≡◌, refl, List, [], ◌∷◌, ◌++◌, ℕ, replicate}
 use Rattle.bits.specs.Bits.{low_bits, bits_of}
 use Rattle.grid.specs.Grid.{upd, within, boxed}
 use Rattle.strip.specs.Strip.{decode}
@@ -43,7 +40,8 @@ shown =
     ++ (0x19 ∷ 0x1A ∷ 0x1B ∷ 0x1C ∷ 0x1D ∷ 0x1E ∷ 0x1F ∷ 0x20 ∷ 0x0C ∷ 0x0C ∷ 0x0C ∷ 0x0C ∷ 0x0C ∷ 0x0C ∷ 0x0C ∷ 0x7E ∷ [])
 
 pub loaded-room : (number_of (load_test room session lent []) ≡ 0) × (pixels_after room (load_test room session lent []) lent ≡ shown ++ (0xEE ∷ []))
-unfolding low_bits bits_of upd within boxed decode five_from kind_of placed raw_of coded_of strip_of container block_end walk run block_ok well_formed tagged payload
-    each_has offset_at offset_right offsets_right table_right body_end body_of strip_at pixel_at strip_test leftmost block_test headed_in background_in needed_in
-    objects_right trns_in sizes_right room_of sized head_of smap_and_planes_test pictures_test short after_head room_test background loaded_pixels
+unfolding low_bits bits_of upd within boxed decode five_from kind_of placed raw_of coded_of strip_of container block_end walk run block_ok well_formed tagged
+    payload each_has offset_at offset_right offsets_right table_right body_end body_of strip_at pixel_at strip_test leftmost block_test headed_in
+    background_in needed_in objects_right trns_in sizes_right room_of sized head_of smap_and_planes_test pictures_test short after_head room_test background
+    loaded_pixels
 loaded-room = (refl, refl)

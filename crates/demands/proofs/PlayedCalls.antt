@@ -15,9 +15,7 @@
 -- 9. Take back the draw of object 2: the entry that it removed is there again, object 1's, as after 2.
 --
 -- A take-back lowers the count of steps and leaves the bytes of the step; a shown list that gets shorter leaves the bytes past its end.
-use mathlib.Core.Path.{◌≡◌, refl, ap, ◌∙◌}
-use mathlib.Core.List.{List, [], ◌∷◌, ◌++◌}
-use Prim.Native.Nat.{ℕ}
+use Rattle.std.proofs.Common.{◌≡◌, refl, ap, ◌∙◌, List, [], ◌∷◌, ◌++◌, ℕ}
 use Rattle.bits.specs.Bits.{low_bits, bits_of}
 use Rattle.grid.specs.Grid.{upd}
 use Rattle.strip.specs.Strip.{decode}
@@ -186,12 +184,12 @@ next cs before c n after passes reached gives = (
 )
 
 pub played : Played
-unfolding low_bits bits_of upd decode five_from kind_of placed raw_of coded_of strip_of rows_of block_end walk run tagged payload offset_at offset_right offsets_right
-    table_right body_end body_of strip_at rows_at pixel_at mask_at strip_test leftmost block_test plane_test smap_and_planes_test object_block background mask object_id has_id first_of
-    image_block image_count home_x home_y image_width image_height state_block drawable image_test image_fault image_strip image_colour image_clear image_bits every opaque
-    covers reaches over_pixel over_mask layered pixel_layout mask_layout fresh_byte new_byte rebuilt_bytes some only without spot_of entry_of same_box clash removes adds
-    moves applied touches aligned sized inside allowed refusal bare replay replays same_entry same_list right_for scene_of made unmade tried called marks_from
-    all_placed put_marks session_of decoded
+unfolding low_bits bits_of upd decode five_from kind_of placed raw_of coded_of strip_of rows_of block_end walk run tagged payload offset_at offset_right
+    offsets_right table_right body_end body_of strip_at rows_at pixel_at mask_at strip_test leftmost block_test plane_test smap_and_planes_test object_block
+    background mask object_id has_id first_of image_block image_count home_x home_y image_width image_height state_block drawable image_test image_fault
+    image_strip image_colour image_clear image_bits every opaque covers reaches over_pixel over_mask layered pixel_layout mask_layout fresh_byte new_byte
+    rebuilt_bytes some only without spot_of entry_of same_box clash removes adds moves applied touches aligned sized inside allowed refusal bare replay
+    replays same_entry same_list right_for scene_of made unmade tried called marks_from all_placed put_marks session_of decoded
 played =
     let passes = load_is.0 in
     let c1 = next [] loaded TakeBack 13 loaded passes start (refl, refl) in

@@ -1,12 +1,5 @@
 -- The numbers of a whole cast: 18, the frame's and the planes' 3 and 4, and those of the first bad record, each exactly when.
-use mathlib.Core.Path.{◌≡◌, refl, sym, subst}
-use mathlib.Core.Bool.{Bool, true, false, cond, ◌&&◌}
-use mathlib.Core.List.{List, [], ◌∷◌}
-use mathlib.Core.Logic.{◌⊎◌, inl, inr, ◌↔◌}
-use Prim.Native.Nat.{ℕ, ◌*◌, ◌≤◌, ◌<◌}
-use native.Mathlib.Omega.{arith}
-use lib.Dec.{ltb, leb, eqb}
-use lib.ListN.{length, get_or}
+use Rattle.std.proofs.Common.{◌≡◌, refl, sym, subst, Bool, true, false, cond, ◌&&◌, List, [], ◌∷◌, ◌⊎◌, inl, inr, ◌↔◌, ℕ, ◌*◌, ◌≤◌, ◌<◌, arith, ltb, leb, eqb, length, get_or}
 use Rattle.actor.specs.Sizes.{sizes_fit, picture_fits, mask_bytes}
 use Rattle.cast.specs.declared.Actor.{Actor}
 use Rattle.cast.specs.Call.{record_number, first_bad, number_in}

@@ -1,11 +1,6 @@
 -- When a session isn't one that the room gives (refusal 9): a step of its history is refused where it stands, or its list isn't the history's.
-use mathlib.Core.Path.{◌≡◌, refl, sym, ap, ◌∙◌, subst}
-use mathlib.Core.Bool.{Bool, true, false, true≢false}
-use mathlib.Core.List.{List, [], ◌∷◌, ◌++◌}
-use mathlib.Core.Logic.{◌⊎◌, inl, inr, ◌↔◌}
-use borrow.Author.Tests.{eqb-true, eqb-false, eq-eqb}
-use lib.Dec.{eqb}
-use lib.ListN.{length}
+use Rattle.std.proofs.Common.{◌≡◌, refl, sym, ap, ◌∙◌, subst, Bool, true, false, true≢false, List, [], ◌∷◌, ◌++◌, ◌⊎◌, inl, inr, ◌↔◌, eqb-true, eq-eqb, eqb, length}
+use borrow.Author.Tests.{eqb-false}
 use Rattle.number.proofs.BoolLaws.{and_left, and_right, and-true}
 use Rattle.scene.specs.Painting.{Room}
 use Rattle.scene.specs.declared.Entry.{Entry}

@@ -1,10 +1,6 @@
 -- Which images of objects are refused with 2 and 5 to 8: SMAP is missing, or the picture is wrong as a room's is.
-use mathlib.Core.Path.{◌≡◌, refl, sym, ap, ◌∙◌, subst}
-use mathlib.Core.Bool.{true, ◌&&◌, false≢true}
-use mathlib.Core.List.{List}
-use mathlib.Core.Logic.{◌⊎◌, inl, inr, ◌↔◌}
-use Prim.Native.Nat.{ℕ, zero, suc, ◌+◌, ◌/◌, ◌≤◌}
-use native.Mathlib.Omega.{arith}
+use Rattle.std.proofs.Common.{◌≡◌, refl, sym, ap, ◌∙◌, subst, true, ◌&&◌, List, ◌⊎◌, inl, inr, ◌↔◌, ℕ, zero, suc, ◌+◌, ◌/◌, ◌≤◌, arith}
+use mathlib.Core.Bool.{false≢true}
 use Rattle.number.proofs.BoolLaws.{and_right}
 use Rattle.block.specs.Tag.{tag-SMAP}
 use Rattle.block.specs.Tree.{find_tag, is_at}
@@ -14,7 +10,6 @@ use Rattle.table.specs.Test.{number}
 use Rattle.table.specs.declared.Test.{Test}
 use Rattle.table.specs.declared.Test.TheVariants as test
 use Rattle.room.specs.declared.Room.{Room}
-use Rattle.room.specs.declared.Tested.TheVariants.{Refused}
 use Rattle.image.specs.Image.{image_width, image_height, image_block, image_count, state_block, is_object, state_right, drawable}
 use Rattle.image.specs.Fault.{smap_test, image_test, state_test, image_fault}
 use Rattle.scene.specs.Steps.{some}

@@ -1,11 +1,6 @@
 -- When a needed block is missing or too short (refusal 2): the room's own, and those of its objects.
-use mathlib.Core.Path.{◌≡◌, refl, sym, ap, ◌∙◌}
-use mathlib.Core.Bool.{Bool, true, false, true≢false, false≢true}
-use mathlib.Core.List.{List, [], ◌∷◌}
-use mathlib.Core.Logic.{◌⊎◌, inl, inr, ◌↔◌}
-use Prim.Native.Nat.{ℕ, suc, ◌+◌}
-use native.Mathlib.Omega.{arith}
-use lib.ListN.{length, get_or}
+use Rattle.std.proofs.Common.{◌≡◌, refl, sym, ap, ◌∙◌, Bool, true, false, true≢false, List, [], ◌∷◌, ◌⊎◌, inl, inr, ◌↔◌, ℕ, suc, ◌+◌, arith, length, get_or}
+use mathlib.Core.Bool.{false≢true}
 use Rattle.block.specs.Tag.{tag-RMHD, tag-RMIM, tag-RMIH, tag-IM00, tag-SMAP, tag-OBCD, tag-CDHD, tag-OBIM, tag-IMHD, tag-TRNS}
 use Rattle.block.specs.Tree.{tagged, nth_tag, find_tag, need_tag, is_at, has_in, all_of, each_has}
 use Rattle.block.specs.declared.Found.{Found}

@@ -1,12 +1,6 @@
 -- The numbers of an object's header and name, and of the object at a point. A header of a room that passes is never 2: each OBCD has its CDHD.
-use mathlib.Core.Path.{◌≡◌, refl, sym, ap, ◌∙◌, subst}
-use mathlib.Core.Bool.{Bool, true, false, cond, false≢true}
-use mathlib.Core.List.{List, [], ◌∷◌}
-use mathlib.Core.Logic.{◌⊎◌, inl, inr, ◌↔◌}
-use Prim.Native.Nat.{ℕ, zero, suc, ◌+◌, ◌-◌, ◌≤◌}
-use native.Mathlib.Omega.{arith}
-use lib.Dec.{eqb, ltb}
-use lib.ListN.{length, get_or}
+use Rattle.std.proofs.Common.{◌≡◌, refl, sym, ap, ◌∙◌, subst, Bool, true, false, cond, List, [], ◌∷◌, ◌⊎◌, inl, inr, ◌↔◌, ℕ, zero, suc, ◌+◌, ◌-◌, ◌≤◌, arith, eqb, ltb, length, get_or}
+use mathlib.Core.Bool.{false≢true}
 use Rattle.number.proofs.BoolLaws.{and_left, both}
 use Rattle.block.specs.Tag.{tag-OBCD, tag-CDHD, tag-OBIM, tag-IMHD}
 use Rattle.block.specs.Tree.{tagged, need_tag, is_at, has_in, all_of, each_has}
@@ -59,7 +53,8 @@ module _ (s : List ℕ) (right : objects_right s ≡ true) where
   header-zero (At b z) has e = absurd (let z : ◌≡◌ {A = ℕ} 0 11 = sym (payload-zero (need_tag tag-CDHD 13 s (b + 8) z) has) ∙ e in omega arith)
   header-zero Missing has e = refl
 
-  header_numbers : (f : Found) → has_in tag-CDHD 13 s f ≡ true → (place_number (header_in s (block_or_absent f)) ≡ 0) ⊎ (place_number (header_in s (block_or_absent f)) ≡ 11)
+  header_numbers : (f : Found) → has_in tag-CDHD 13 s f ≡ true → (place_number (header_in s (block_or_absent f)) ≡ 0)
+      ⊎ (place_number (header_in s (block_or_absent f)) ≡ 11)
   header_numbers (At b z) has = inl (payload-zero (need_tag tag-CDHD 13 s (b + 8) z) has)
   header_numbers Missing has = inr refl
 

@@ -1,13 +1,5 @@
 -- The numbers of the calls that take no room: the hidden-pixel question, the stamp, costumes and the writers.
-use mathlib.Core.Path.{◌≡◌, refl, sym, ap, ◌∙◌, subst}
-use mathlib.Core.Bool.{Bool, true, false, cond, ◌&&◌, not}
-use mathlib.Core.List.{List}
-use mathlib.Core.Logic.{◌⊎◌, inl, inr, ◌↔◌}
-use Prim.Native.Nat.{ℕ, ◌*◌, ◌/◌, ◌≤◌, ◌<◌}
-use native.Mathlib.Omega.{arith}
-use lib.Dec.{ltb, leb, eqb}
-use lib.ListN.{length}
-use borrow.Author.Tests.{eqb-true}
+use Rattle.std.proofs.Common.{◌≡◌, refl, sym, ap, ◌∙◌, subst, Bool, true, false, cond, ◌&&◌, not, List, ◌⊎◌, inl, inr, ◌↔◌, ℕ, ◌*◌, ◌/◌, ◌≤◌, ◌<◌, arith, ltb, leb, eqb, length, eqb-true}
 use Rattle.actor.specs.Sizes.{sizes_fit, picture_fits, mask_bytes, buffers_fit}
 use Rattle.actor.specs.Hidden.{hidden_at, hidden_number, hidden_of}
 use Rattle.actor.specs.Hidden as actor

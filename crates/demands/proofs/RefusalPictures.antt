@@ -1,13 +1,7 @@
 -- Which pictures are refused with 5 to 8: the first bad block, by its table or at its leftmost bad strip.
-use mathlib.Core.Path.{◌≡◌, refl, sym, ap, ap₂, ◌∙◌, subst}
-use mathlib.Core.Bool.{Bool, true, false, cond}
-use mathlib.Core.List.{List}
-use mathlib.Core.Logic.{◌⊎◌, inl, inr, ◌↔◌, by_cases}
-use Prim.Native.Nat.{ℕ, zero, suc, ◌+◌, ◌≤◌, ◌<◌}
+use Rattle.std.proofs.Common.{◌≡◌, refl, sym, ap, ap₂, ◌∙◌, subst, Bool, true, false, cond, List, ◌⊎◌, inl, inr, ◌↔◌, ℕ, zero, suc, ◌+◌, ◌≤◌, ◌<◌, arith, eqb, replicate}
+use mathlib.Core.Logic.{by_cases}
 use native.Mathlib.Decide.{ℕ_discrete}
-use native.Mathlib.Omega.{arith}
-use lib.Dec.{eqb}
-use lib.ListN.{replicate}
 use Rattle.block.specs.declared.Found.{Found}
 use Rattle.block.specs.declared.Found.TheVariants.{At, Missing}
 use Rattle.strip.specs.Strip.{Strip, refused, values}
@@ -108,7 +102,8 @@ module _ (n h : ℕ) (s : List ℕ) (b z k r : ℕ) where
   abbrev Faulty : Bool → Type 0
   Faulty mask = (bodiless mask (offset_at mask s b k) ≡ false) × StripFault mask h (body_of mask n s b z k) r
 
-  rows_bad : (none : Bool) → eqb (offset_at true s b k) 0 ≡ none → rows_test (cond none (values (replicate h 0)) (rows_of (body_of true n s b z k) h (literals 0)))
+  rows_bad : (none : Bool) → eqb (offset_at true s b k) 0 ≡ none
+      → rows_test (cond none (values (replicate h 0)) (rows_of (body_of true n s b z k) h (literals 0)))
       ≡ Refused r
       → Faulty true
   rows_bad true none e = absurd (not-passed r (sym e))

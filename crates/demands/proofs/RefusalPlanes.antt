@@ -1,13 +1,8 @@
 -- Which strips of masks are refused with 7 and 8 (document 01, "Strips of masks"): at the first operation that passes the end, or whose bytes are
 -- missing.
-use mathlib.Core.Path.{◌≡◌, sym, ap, ◌∙◌}
-use mathlib.Core.List.{List, [], ◌++◌}
-use mathlib.Core.Logic.{◌⊎◌, inl, inr, by_cases}
-use Prim.Native.Nat.{ℕ, zero, suc, ◌+◌, ◌-◌, ◌≤◌, ◌<◌}
+use Rattle.std.proofs.Common.{◌≡◌, sym, ap, ◌∙◌, List, [], ◌++◌, ◌⊎◌, inl, inr, ℕ, zero, suc, ◌+◌, ◌-◌, ◌≤◌, ◌<◌, arith, lt-ltb, le-ltb, length, get_or, take, drop, replicate}
+use mathlib.Core.Logic.{by_cases}
 use native.Mathlib.Decide.{dec_lt}
-use native.Mathlib.Omega.{arith}
-use borrow.Author.Tests.{lt-ltb, le-ltb}
-use lib.ListN.{length, get_or, take, drop, replicate}
 use Rattle.strip.specs.Strip.{Strip, refused, prepend}
 use Rattle.strip.proofs.StripLaws.{prepend-none, prepend-prepend}
 use Rattle.plane.specs.Mask.{rows_in, rows_of, literals, RowsAt}
@@ -131,7 +126,8 @@ module _ (h : ℕ) (body : List ℕ) where
       let room : at + 1 + bytes_needed (get_or body at 0) ≤ length body = omega (arith, enough) in
       let step = goes_on body at k pos fits room in
       later (k - rows_in (get_or body at 0)) (at + 1 + bytes_needed (get_or body at 0)) (omega arith) room (next reached pos fits room)
-      (prepend-refused step.0 (rows_of (drop (at + 1 + bytes_needed (get_or body at 0)) body) (k - rows_in (get_or body at 0)) (literals 0)) n (sym step.1 ∙ e)))))
+      (prepend-refused step.0 (rows_of (drop (at + 1 + bytes_needed (get_or body at 0)) body) (k - rows_in (get_or body at 0)) (literals 0)) n
+      (sym step.1 ∙ e)))))
       (λ end.
       let over : length body ≤ at = omega (arith, end) in
       inl (refused-same n 7 (sym e ∙ at_end body at k pos over), (k, at, reached, pos, inl over)))

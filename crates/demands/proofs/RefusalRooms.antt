@@ -1,11 +1,5 @@
 -- Which rooms are refused with 1 to 8, and which pass: the whole test of a room, taken apart in its order.
-use mathlib.Core.Path.{◌≡◌, refl, ap, ◌∙◌, subst}
-use mathlib.Core.Bool.{Bool, true, false, cond, ◌&&◌, ◌||◌}
-use mathlib.Core.List.{List}
-use mathlib.Core.Logic.{◌⊎◌, inl, inr, ◌↔◌}
-use Prim.Native.Nat.{ℕ, ◌*◌, ◌/◌, ◌≤◌, ◌<◌}
-use native.Mathlib.Omega.{arith}
-use lib.Dec.{ltb}
+use Rattle.std.proofs.Common.{◌≡◌, refl, ap, ◌∙◌, subst, Bool, true, false, cond, ◌&&◌, ◌||◌, List, ◌⊎◌, inl, inr, ◌↔◌, ℕ, ◌*◌, ◌/◌, ◌≤◌, ◌<◌, arith, ltb}
 use Rattle.block.specs.Tree.{well_formed}
 use Rattle.table.specs.declared.Test.{Test}
 use Rattle.table.specs.declared.Test.TheVariants as test
@@ -189,7 +183,8 @@ module _ (lent : Lent) (s : List ℕ) where
       go (inr (inl (e, w))) = absurd (omega arith)
       go (inr (inr (r, head, enough, w))) = absurd (omega (arith, (picture.wrong_number s (picture_of r) 1 w).0))
 
-  pub two : (number_of (room_test lent s) ≡ 2) ↔ ((well_formed s ≡ true) × ((needed_in s ≡ Missing) ⊎ (objects_right s ≡ false) ⊎ (holds_index (trns_in s) ≡ false)))
+  pub two : (number_of (room_test lent s) ≡ 2)
+      ↔ ((well_formed s ≡ true) × ((needed_in s ≡ Missing) ⊎ (objects_right s ≡ false) ⊎ (holds_index (trns_in s) ≡ false)))
   two = (λ e. go (why 2 (omega arith) e), λ (w, v). ap number_of (head_refused 2 (lacking s w v)))
     where
       go : Verdict (Refused 2) → (well_formed s ≡ true) × ((needed_in s ≡ Missing) ⊎ (objects_right s ≡ false) ⊎ (holds_index (trns_in s) ≡ false))

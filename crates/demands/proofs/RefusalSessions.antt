@@ -1,12 +1,5 @@
 -- The numbers of draws, hides and take-backs on lent bytes: the room's, 9, then the step's or the take-back's.
-use mathlib.Core.Path.{◌≡◌, refl, sym, ◌∙◌, subst}
-use mathlib.Core.Bool.{Bool, true, false, cond}
-use mathlib.Core.List.{List, [], ◌∷◌}
-use mathlib.Core.Logic.{◌⊎◌, inl, inr, ◌↔◌}
-use Prim.Native.Nat.{ℕ, ◌+◌, ◌≤◌, ◌<◌}
-use native.Mathlib.Omega.{arith}
-use lib.Dec.{eqb}
-use lib.ListN.{length}
+use Rattle.std.proofs.Common.{◌≡◌, refl, sym, ◌∙◌, subst, Bool, true, false, cond, List, [], ◌∷◌, ◌⊎◌, inl, inr, ◌↔◌, ℕ, ◌+◌, ◌≤◌, ◌<◌, arith, eqb, length}
 use Rattle.block.specs.Tag.{tag-SMAP}
 use Rattle.block.specs.Tree.{find_tag}
 use Rattle.block.specs.declared.Found.TheVariants.{At, Missing}
@@ -83,7 +76,8 @@ module _ (s : List ℕ) (b : play.Lent) where
   numbered c r m = renamed m (called-number (decoded s r) (held r) c)
 
   -- of a call whose own numbers aren't 9
-  pub nine : (c : Call) → ((r : Room) → tried_number c r ≡ 9 → ⊥) → (play.number_of s b c ≡ 9) ↔ ((r : Room) × (play.call_test s b ≡ Right r) × (right r ≡ false))
+  pub nine : (c : Call) → ((r : Room) → tried_number c r ≡ 9 → ⊥) → (play.number_of s b c ≡ 9)
+      ↔ ((r : Room) × (play.call_test s b ≡ Right r) × (right r ≡ false))
   nine c other =
       calls.late lent s (play.number_by s b c) (λ n. refl) 9 (λ r. right r ≡ false) (omega arith)
       (λ r e. numbered c r 9 then fails (right r) (tried_number c r) 9 (other r))
@@ -97,7 +91,8 @@ module _ (s : List ℕ) (b : play.Lent) where
       then ((λ (r, e, (h, w)). (r, e, h, w)), λ (r, e, h, w). (r, e, (h, w)))
 
   -- accepted
-  zero : (c : Call) (P : Room → Session → Type 0) → ((r : Room) → (tried_number c r ≡ 0) ↔ P r (session_in s r b)) → (play.number_of s b c ≡ 0) ↔ AtSession s b P
+  zero : (c : Call) (P : Room → Session → Type 0) → ((r : Room) → (tried_number c r ≡ 0) ↔ P r (session_in s r b)) → (play.number_of s b c ≡ 0)
+      ↔ AtSession s b P
   zero c P own =
       calls.accepts lent s (play.number_by s b c) (λ n. refl) (λ r. (right r ≡ true) × P r (session_in s r b))
       (λ r e. numbered c r 0 then after_fails (right r) (tried_number c r) 9 0 (λ h. omega arith) then both_ways same (own r))

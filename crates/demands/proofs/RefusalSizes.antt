@@ -1,10 +1,5 @@
 -- When sizes are outside document 01's (refusal 3), there is no such object, image or state (11), and a place isn't allowed (12).
-use mathlib.Core.Path.{◌≡◌}
-use mathlib.Core.Bool.{false, ◌&&◌}
-use mathlib.Core.List.{List}
-use mathlib.Core.Logic.{◌⊎◌, ◌↔◌}
-use Prim.Native.Nat.{ℕ, ◌+◌, ◌*◌, ◌%◌, ◌<◌}
-use lib.Dec.{leb, ltb, eqb}
+use Rattle.std.proofs.Common.{◌≡◌, false, ◌&&◌, List, ◌⊎◌, ◌↔◌, ℕ, ◌+◌, ◌*◌, ◌%◌, ◌<◌, leb, ltb, eqb}
 use Rattle.block.specs.Tree.{is_at}
 use Rattle.room.specs.Head.{sizes_right}
 use Rattle.room.specs.declared.Room.{Room}

@@ -1,12 +1,5 @@
 -- The numbers of a draw and of a hide after n steps: 10, 11 and 12, then the image's.
-use mathlib.Core.Path.{◌≡◌, sym, ap, ◌∙◌}
-use mathlib.Core.Bool.{Bool, true, false, cond, not}
-use mathlib.Core.Logic.{◌⊎◌, inl, inr, ◌↔◌}
-use Prim.Native.Nat.{ℕ, ◌≤◌, ◌<◌}
-use native.Mathlib.Omega.{arith}
-use lib.Dec.{eqb, leb}
-use Rattle.room.specs.declared.Room.{Room}
-use Rattle.image.specs.Image.{drawable}
+use Rattle.std.proofs.Common.{◌≡◌, sym, ap, ◌∙◌, Bool, true, false, cond, not, ◌⊎◌, inl, inr, ◌↔◌, ℕ, ◌≤◌, ◌<◌, arith, eqb, leb}
 use Rattle.scene.specs.Painting as scene
 use Rattle.scene.specs.declared.Place.{Place}
 use Rattle.scene.specs.declared.Step.TheVariants.{Draw, Hide}

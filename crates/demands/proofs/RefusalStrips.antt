@@ -1,14 +1,8 @@
 -- Which strips of pixels are refused with 6, 7 and 8 (document 01, "Strips of pixels"): a coded strip at the first operation that is cut or passes
 -- the end, another by its length or its code.
-use mathlib.Core.Path.{◌≡◌, refl, sym, ap, ◌∙◌, subst}
-use mathlib.Core.Bool.{Bool, true, false}
-use mathlib.Core.List.{List, [], ◌∷◌, ◌++◌}
-use mathlib.Core.Logic.{◌⊎◌, inl, inr, by_cases}
-use Prim.Native.Nat.{ℕ, zero, suc, ◌+◌, ◌-◌, ◌*◌, ◌≤◌, ◌<◌}
+use Rattle.std.proofs.Common.{◌≡◌, refl, sym, ap, ◌∙◌, subst, Bool, true, false, List, [], ◌∷◌, ◌++◌, ◌⊎◌, inl, inr, ℕ, zero, suc, ◌+◌, ◌-◌, ◌*◌, ◌≤◌, ◌<◌, arith, eqb, length, get_or, drop, replicate, length-drop}
+use mathlib.Core.Logic.{by_cases}
 use native.Mathlib.Decide.{dec_lt}
-use native.Mathlib.Omega.{arith}
-use lib.Dec.{eqb}
-use lib.ListN.{length, get_or, drop, replicate, length-drop}
 use Rattle.bits.specs.Bits.{Pull, short, got, pull, bits_of}
 use Rattle.strip.specs.Strip.{Move, refuse, go, index_op, walk_op, run_op, change_op, op_of, Strip, refused, values, prepend, decode}
 use Rattle.strip.specs.Picture.{refusal, picture, kind_of, shown, by_kind, strip_of}

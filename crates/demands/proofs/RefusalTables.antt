@@ -1,17 +1,12 @@
 -- When a strip table is wrong (refusal 5): it doesn't fit its block, or an offset is too low, too high or not above one before it.
-use mathlib.Core.Path.{◌≡◌, refl, sym, ap, ◌∙◌, subst}
-use mathlib.Core.Bool.{Bool, true, false, ◌&&◌, cond, true≢false}
-use mathlib.Core.List.{List}
-use mathlib.Core.Logic.{◌⊎◌, inl, inr, ◌↔◌, by_cases}
-use Prim.Native.Nat.{ℕ, zero, suc, ◌+◌, ◌-◌, ◌≤◌, ◌<◌}
+use Rattle.std.proofs.Common.{◌≡◌, refl, sym, ap, ◌∙◌, subst, Bool, true, false, ◌&&◌, cond, true≢false, List, ◌⊎◌, inl, inr, ◌↔◌, ℕ, zero, suc, ◌+◌, ◌-◌, ◌≤◌, ◌<◌, arith, leb, ltb}
+use mathlib.Core.Logic.{by_cases}
 use native.Mathlib.Decide.{ℕ_discrete}
-use native.Mathlib.Omega.{arith}
-use lib.Dec.{leb, ltb}
 use Rattle.number.proofs.BoolLaws.{both}
 use Rattle.table.specs.Table.{table_end, offset_at, offset_right, bodiless, offsets_right, table_right}
 use Rattle.table.proofs.TableLaws.{right_offset, offsets_at}
 use Rattle.demands.specs.RoomRefusals.{OffsetWrong, TableBad}
-use Rattle.demands.proofs.RefusalTests.{◌then◌, or_fails, one_fails, flat_sum, same, not-up_to, not-below}
+use Rattle.demands.proofs.RefusalTests.{◌then◌, or_fails, one_fails, flat_sum, not-up_to, not-below}
 
 module _ (mask : Bool) (s : List ℕ) (b low size : ℕ) where
   abbrev at : ℕ → ℕ
@@ -69,7 +64,8 @@ module _ (mask : Bool) (s : List ℕ) (b low size : ℕ) where
 
       go : (q : Bool) → bodiless mask (at k) ≡ q → (offsets_right mask s b low size (k + 1) m before ≡ false → SomeWrong (k + 1) m before)
           → (offsets_right mask s b low size (k + 1) m (at k) ≡ false → SomeWrong (k + 1) m (at k))
-          → cond q (offsets_right mask s b low size (k + 1) m before) (offset_right low size before (at k) && offsets_right mask s b low size (k + 1) m (at k)) ≡
+          → cond q (offsets_right mask s b low size (k + 1) m before)
+          (offset_right low size before (at k) && offsets_right mask s b low size (k + 1) m (at k)) ≡
           false
           → SomeWrong k (suc m) before
       go true none passed next w =
@@ -89,7 +85,8 @@ module _ (mask : Bool) (s : List ℕ) (b low size : ℕ) where
       go : (q : Bool) → bodiless mask (at k) ≡ q
           → ((from : ℕ) → offsets_right mask s b low size (k + 1) m from ≡ true → (u : ℕ) → k + 1 ≤ u → u < k + 1 + m → Has u
           → (low ≤ at u) × (at u < size) × (from < at u))
-          → cond q (offsets_right mask s b low size (k + 1) m before) (offset_right low size before (at k) && offsets_right mask s b low size (k + 1) m (at k)) ≡
+          → cond q (offsets_right mask s b low size (k + 1) m before)
+          (offset_right low size before (at k) && offsets_right mask s b low size (k + 1) m (at k)) ≡
           true
           → (low ≤ at t) × (at t < size) × (before < at t)
       go true none later w =

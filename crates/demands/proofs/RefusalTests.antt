@@ -1,10 +1,7 @@
 -- When a chain of tests gives a number: `cond t x a` gives a where the test fails, and `cond t a x` where it holds. Each law says so both ways.
-use mathlib.Core.Path.{◌≡◌, refl, sym, ap, ◌∙◌}
-use mathlib.Core.Bool.{Bool, true, false, cond, not, ◌&&◌, ◌||◌, true≢false, false≢true}
-use mathlib.Core.Logic.{◌⊎◌, inl, inr, ◌↔◌}
-use Prim.Native.Nat.{ℕ, ◌≤◌, ◌<◌}
-use borrow.Author.Tests.{ltb-true, ltb-false, leb-true, leb-false, eqb-false, not-false, lt-ltb, le-ltb, le-leb, lt-leb, ne_eqb}
-use lib.Dec.{ltb, leb, eqb}
+use Rattle.std.proofs.Common.{◌≡◌, refl, sym, ap, ◌∙◌, Bool, true, false, cond, not, ◌&&◌, ◌||◌, true≢false, ◌⊎◌, inl, inr, ◌↔◌, ℕ, ◌≤◌, ◌<◌, ltb-true, ltb-false, leb-true, leb-false, lt-ltb, le-ltb, le-leb, ne_eqb, ltb, leb, eqb}
+use mathlib.Core.Bool.{false≢true}
+use borrow.Author.Tests.{eqb-false, not-false, lt-leb}
 
 -- ---- a test that gives a where it fails
 

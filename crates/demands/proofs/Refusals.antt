@@ -1,7 +1,5 @@
 -- Document 01's table of refusals holds: each number is given exactly when.
-use Prim.Native.Nat.{◌/◌}
-use mathlib.Core.Path.{refl}
-use lib.ListN.{length}
+use Rattle.std.proofs.Common.{◌/◌, refl, length}
 use Rattle.room.specs.Test.{fixed_only, with_flags}
 use Rattle.demands.specs.Refusals.{Refusals}
 use Rattle.demands.specs.Numbers.{Numbers}

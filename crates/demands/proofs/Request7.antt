@@ -1,15 +1,8 @@
 -- Change request 7 holds: the list is put in the one order that the request names, and the frame is what the single stamps leave in that order.
-use Prim.Native.Nat.{ℕ, ◌+◌, ◌*◌, ◌≤◌, ◌<◌}
-use mathlib.Core.Path.{◌≡◌, refl, sym, ap, ◌∙◌}
-use mathlib.Core.Bool.{true}
-use mathlib.Core.List.{List, [], ◌∷◌}
+use Rattle.std.proofs.Common.{ℕ, ◌+◌, ◌*◌, ◌≤◌, ◌<◌, ◌≡◌, refl, sym, ap, ◌∙◌, true, List, [], ◌∷◌, arith, eq-eqb, ne_eqb, length, get_or, drop, length-drop, get_or-drop}
 use mathlib.Core.Logic.{by_cases}
 use native.Mathlib.Decide.{ℕ_discrete}
-use native.Mathlib.Omega.{arith}
-use borrow.Author.Tests.{eq-eqb, ne_eqb}
 use lib.IntN.{ℤ, pos}
-use lib.ListN.{length, get_or, drop, length-drop}
-use lib.Seq.{get_or-drop}
 use Rattle.actor.specs.Sizes.{sizes_fit, mask_bytes}
 use Rattle.actor.proofs.ActorLaws.{opaque-shown}
 use Rattle.actor.proofs.PictureLaws as picture

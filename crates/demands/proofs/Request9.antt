@@ -1,14 +1,6 @@
 -- Change request 9 holds: a room's transparent index is read as the request says, and the painting, the record and the stamp go by it.
-use Prim.Native.Nat.{ℕ, ◌+◌, ◌-◌, ◌/◌, ◌%◌, ◌≤◌}
-use mathlib.Core.Path.{◌≡◌, refl, sym, ap, ◌∙◌, subst}
-use mathlib.Core.Bool.{Bool, true, false, true≢false, not}
-use mathlib.Core.List.{List}
-use mathlib.Core.Logic.{inl, inr, ◌↔◌}
-use native.Mathlib.Omega.{arith}
-use borrow.Author.Tests.{eqb-true, eq-eqb}
+use Rattle.std.proofs.Common.{ℕ, ◌+◌, ◌-◌, ◌/◌, ◌%◌, ◌≤◌, ◌≡◌, refl, sym, ap, ◌∙◌, subst, Bool, true, false, true≢false, not, List, inl, inr, ◌↔◌, arith, eqb-true, eq-eqb, eqb, length, get_or}
 use lib.Bits.{bit_or}
-use lib.Dec.{eqb}
-use lib.ListN.{length, get_or}
 use Rattle.number.specs.Buffer.{over}
 use Rattle.number.proofs.BoolLaws.{both, and-true}
 use Rattle.block.specs.Tag.{tag-TRNS}
@@ -28,7 +20,6 @@ use Rattle.scene.specs.Painting.{opaque, covers, reaches, over_pixel, over_mask}
 use Rattle.scene.specs.declared.Entry.{Entry}
 use Rattle.layers.specs.Decoded.{decoded}
 use Rattle.layers.proofs.EveryLaws.{every_at, every_of}
-use Rattle.play.specs.Bytes.{Lent}
 use Rattle.actor.proofs.ActorLaws as actor
 use Rattle.demands.specs.Refusals.{Sized}
 use Rattle.demands.specs.Request9.{Index, Transparent, NoneTransparent, Paints, Request9}

@@ -1,13 +1,7 @@
 -- What the pixels of raw strips and of coded ones are, and what a run gives (change request 5), from the laws of crates bits and strip.
-use mathlib.Core.Path.{◌≡◌, refl, sym, ap, ◌∙◌}
-use mathlib.Core.Bool.{Bool, true, false}
-use mathlib.Core.List.{List, [], ◌∷◌, ◌++◌}
-use mathlib.Core.Logic.{by_cases, inl, inr}
-use Prim.Native.Nat.{ℕ, zero, suc, ◌+◌, ◌-◌, ◌*◌, ◌/◌, ◌%◌, ◌^◌, ◌≤◌, ◌<◌}
+use Rattle.std.proofs.Common.{◌≡◌, refl, sym, ap, ◌∙◌, Bool, true, false, List, [], ◌∷◌, ◌++◌, inl, inr, ℕ, zero, suc, ◌+◌, ◌-◌, ◌*◌, ◌/◌, ◌%◌, ◌^◌, ◌≤◌, ◌<◌, arith, length, get_or, take, drop, replicate, take-suc, get_or-take, get_or-drop}
+use mathlib.Core.Logic.{by_cases}
 use native.Mathlib.Decide.{dec_lt}
-use native.Mathlib.Omega.{arith}
-use lib.ListN.{length, get_or, take, drop, replicate}
-use lib.Seq.{take-suc, get_or-take, get_or-drop}
 use Rattle.bits.specs.Bits.{low_bits, got, pull}
 use Rattle.bits.proofs.BitLaws.{pull-low, pull-short}
 use Rattle.strip.specs.Strip.{Strip, refused, values, go, run_pixels, run_op, op_of, prepend, decode}

@@ -1,9 +1,5 @@
 -- Document 01's "Worked rows, proved together as a single table": each row is a computed test, and one theorem says that all hold.
-use mathlib.Core.Bool.{Bool, true, false, ◌&&◌}
-use mathlib.Core.List.{List, [], ◌∷◌, ◌++◌}
-use Prim.Native.Nat.{ℕ}
-use lib.ListN.{replicate}
-use lib.Dec.{eqb, T}
+use Rattle.std.proofs.Common.{Bool, true, false, ◌&&◌, List, [], ◌∷◌, ◌++◌, ℕ, replicate, eqb, T}
 use Rattle.bits.specs.Bits.{low_bits, bits_of}
 use Rattle.strip.specs.Strip.{Strip, refused, values, decode}
 use Rattle.strip.specs.Picture.{Picture, refusal, picture, five_from, kind_of, placed, raw_of, coded_of, strip_of}

@@ -1,13 +1,8 @@
 -- Bytes in their place in a longer list: cut in two, read as numbers, and as blocks that the block tree finds.
-use mathlib.Core.Path.{◌≡◌, refl, sym, ap, ap₂, ◌∙◌, subst}
-use mathlib.Core.Bool.{Bool}
-use mathlib.Core.List.{List, [], ◌++◌, append_assoc, append-nil}
+use Rattle.std.proofs.Common.{◌≡◌, refl, sym, ap, ap₂, ◌∙◌, subst, Bool, List, [], ◌++◌, append_assoc, append-nil, ℕ, zero, suc, ◌+◌, ◌^◌, ◌≤◌, ◌<◌, arith, length, get_or, length-append, get_or-append-add}
 use mathlib.Core.Logic.{by_cases}
-use Prim.Native.Nat.{ℕ, zero, suc, ◌+◌, ◌^◌, ◌≤◌, ◌<◌}
 use native.Mathlib.Decide.{dec_lt}
-use native.Mathlib.Omega.{arith}
-use lib.ListN.{length, get_or, length-append, get_or-append}
-use lib.Seq.{get_or-append-add}
+use lib.ListN.{get_or-append}
 use Rattle.number.specs.Number.{be32, le16, be32_bytes, le16_bytes}
 use Rattle.block.specs.Tag.{container}
 use Rattle.block.proofs.ListLaws.{Stands}

@@ -1,11 +1,5 @@
 -- What accepted calls of the writer leave, as blocks of one room: the background, and planes 1 to n.
-use mathlib.Core.Path.{◌≡◌, refl, sym, ap, ◌∙◌, subst}
-use mathlib.Core.Bool.{true, false}
-use mathlib.Core.List.{List, ◌++◌}
-use Prim.Native.Nat.{ℕ, suc, ◌+◌, ◌-◌, ◌*◌, ◌/◌, ◌≤◌, ◌<◌}
-use native.Mathlib.Nat.{mul_comm}
-use native.Mathlib.Omega.{arith}
-use lib.ListN.{length}
+use Rattle.std.proofs.Common.{◌≡◌, refl, sym, ap, ◌∙◌, subst, true, false, List, ◌++◌, ℕ, suc, ◌+◌, ◌*◌, ◌/◌, ◌≤◌, ◌<◌, mul_comm, arith, length}
 use Rattle.strip_writer.proofs.PixelLaws.{Bytes}
 use Rattle.block_writer.specs.Block.{body_for, smap_tag, plane_tag, smap_block, plane_block}
 use Rattle.block_writer.specs.Call.{smap_outcome, plane_outcome, answer_of, target_after}
@@ -13,18 +7,7 @@ use Rattle.block_writer.specs.Reads.{SmapReads, PlaneReads}
 use Rattle.block_writer.specs.declared.Wrote.TheVariants.{Block}
 use Rattle.block_writer.proofs.CallLaws.{Sizes, length-block}
 use Rattle.block_writer.proofs.BackLaws.{size_few, length-smap}
-use Rattle.block_writer.proofs.ReadBack.{
-  Accepted,
-  front,
-  smap-accepted,
-  smap-call-reads_in,
-  smap-few,
-  plane-accepted,
-  plane-call-reads_in,
-  plane-short,
-  smap-reads_in,
-  plane-reads_in,
-}
+use Rattle.block_writer.proofs.ReadBack.{Accepted, front, smap-accepted, smap-call-reads_in, smap-few, plane-accepted, plane-call-reads_in, plane-short, smap-reads_in, plane-reads_in}
 use Rattle.demands.specs.Written.{smap_written, plane_written}
 
 -- the blocks of a picture and its planes as the writer leaves them: what they are, how long, and that they read anywhere

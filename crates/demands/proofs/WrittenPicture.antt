@@ -1,11 +1,5 @@
 -- The SMAP block and the blocks of planes 1 to n, one after another from `first` on: they fill their list, and each is found by its tag.
-use mathlib.Core.Path.{◌≡◌, refl, sym, ap, ◌∙◌, subst}
-use mathlib.Core.Bool.{true, false}
-use mathlib.Core.List.{List}
-use Prim.Native.Nat.{ℕ, zero, suc, ◌+◌, ◌≤◌, ◌<◌}
-use native.Mathlib.Nat.{add-zero}
-use native.Mathlib.Omega.{arith}
-use lib.ListN.{length}
+use Rattle.std.proofs.Common.{◌≡◌, refl, sym, ap, ◌∙◌, subst, true, false, List, ℕ, zero, suc, ◌+◌, ◌≤◌, ◌<◌, add-zero, arith, length}
 use Rattle.number.specs.Number.{be32_bytes}
 use Rattle.block.specs.Tag.{container, tag-SMAP, tag-ZP}
 use Rattle.block.specs.Tree.{block_ok, list_ok, find_tag}

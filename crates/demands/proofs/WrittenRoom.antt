@@ -1,15 +1,7 @@
 -- A room made of written blocks is accepted with its sizes, and loads to exactly the rows given: so no reader that refuses everything, that has
 -- one room for all inputs or that writes nothing can answer as document 01 says.
-use mathlib.Core.Path.{◌≡◌, refl, sym, ap, ◌∙◌}
-use mathlib.Core.Bool.{Bool, false, cond}
-use mathlib.Core.List.{List}
-use Prim.Native.Nat.{ℕ, suc, ◌+◌, ◌-◌, ◌*◌, ◌/◌, ◌%◌, ◌≤◌, ◌<◌}
-use native.Mathlib.Nat.{mul_comm, mul_assoc, mod-lt, div-add-mod', div-lt_iff_lt-mul}
-use native.Mathlib.Omega.{arith}
-use borrow.Author.Tests.{le-ltb}
+use Rattle.std.proofs.Common.{◌≡◌, refl, sym, ap, ◌∙◌, Bool, false, cond, List, ℕ, suc, ◌+◌, ◌*◌, ◌/◌, ◌%◌, ◌≤◌, ◌<◌, mul_comm, mul_assoc, mod-lt, div-add-mod', div-lt_iff_lt-mul, arith, le-ltb, length, get_or, take, length-take-le, get_or-take}
 use lib.Arith.{digits_lt}
-use lib.ListN.{length, get_or, take}
-use lib.Seq.{length-take-le, get_or-take}
 use Rattle.number.specs.Buffer.{over}
 use Rattle.strip_writer.proofs.PixelLaws.{Bytes}
 use Rattle.block.specs.Tag.{tag-ZP}

@@ -1,15 +1,9 @@
 -- Rows over the front of a surface: a box as wide as its surface that is filled with given cells, and the rows of planes one after another.
-use mathlib.Core.Path.{◌≡◌, sym, ap, ◌∙◌}
-use mathlib.Core.Bool.{cond}
-use mathlib.Core.List.{List, ◌++◌}
+use Rattle.std.proofs.Common.{◌≡◌, sym, ap, ◌∙◌, cond, List, ◌++◌, ℕ, zero, suc, ◌+◌, ◌-◌, ◌*◌, ◌/◌, ◌%◌, ◌≤◌, ◌<◌, zero-le, zero-mul, add-mul, mul_assoc, mul_comm, div-add-mod', div-lt_iff_lt-mul, arith, length, get_or, drop, length-append, length-drop, ext_get_or, get_or-append-add, get_or-drop}
 use mathlib.Core.Logic.{by_cases}
-use Prim.Native.Nat.{ℕ, zero, suc, ◌+◌, ◌-◌, ◌*◌, ◌/◌, ◌%◌, ◌≤◌, ◌<◌, zero-le}
-use native.Mathlib.Nat.{zero-mul, add-mul, mul_assoc, mul_comm, div-add-mod', div-lt_iff_lt-mul}
 use native.Mathlib.Decide.{dec_lt}
-use native.Mathlib.Omega.{arith}
 use lib.Arith.{digits_lt}
-use lib.ListN.{length, get_or, drop, length-append, length-drop, get_or-append}
-use lib.Seq.{ext_get_or, get_or-append-add, get_or-drop}
+use lib.ListN.{get_or-append}
 use Rattle.number.specs.Buffer.{over}
 use Rattle.grid.specs.Grid.{upd, boxed}
 use Rattle.grid.proofs.Upd.{length-upd, get_or-upd}

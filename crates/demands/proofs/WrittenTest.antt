@@ -1,12 +1,5 @@
 -- The least room around written blocks passes its whole test: refusals 1 to 3, and 5 to 8 of its background and planes.
-use mathlib.Core.Path.{◌≡◌, refl, sym, ap, ap₂, ◌∙◌, subst}
-use mathlib.Core.Bool.{Bool, true, false, cond}
-use mathlib.Core.List.{List, ◌++◌}
-use Prim.Native.Nat.{ℕ, zero, suc, ◌+◌, ◌-◌, ◌/◌, ◌%◌, ◌≤◌, ◌<◌}
-use native.Mathlib.Omega.{arith}
-use borrow.Author.Tests.{le-leb, eq-eqb}
-use lib.Dec.{lit<}
-use lib.ListN.{length, length-append}
+use Rattle.std.proofs.Common.{◌≡◌, refl, sym, ap, ap₂, ◌∙◌, subst, Bool, true, false, cond, List, ◌++◌, ℕ, zero, suc, ◌+◌, ◌/◌, ◌%◌, ◌≤◌, ◌<◌, arith, le-leb, eq-eqb, lit<, length, length-append}
 use Rattle.number.specs.Number.{le16, le16_bytes}
 use Rattle.block.specs.Tag.{tag-OBCD, tag-SMAP, tag-ZP}
 use Rattle.block.specs.Tree.{list_ok, well_formed, tagged, find_tag}

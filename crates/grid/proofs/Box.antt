@@ -1,16 +1,10 @@
 -- Writes to a grid, cell by cell along a row and row by row down a box, as `upd`. Assumes nothing.
-use mathlib.Core.Path.{◌≡◌, sym, ap, ◌∙◌}
-use mathlib.Core.Bool.{true, false, and-false, false≢true, cond}
-use mathlib.Core.Logic.{◌⊎◌, inl, inr, by_cases}
-use mathlib.Core.List.{List}
-use Prim.Native.Nat.{ℕ, ◌+◌, ◌-◌, ◌*◌, ◌/◌, ◌%◌, ◌≤◌, ◌<◌}
-use native.Mathlib.Nat.{div-add-mod', mul-le-mul_right}
-use native.Mathlib.Omega.{arith}
+use Rattle.std.proofs.Common.{◌≡◌, sym, ap, ◌∙◌, true, false, cond, ◌⊎◌, inl, inr, List, ℕ, ◌+◌, ◌-◌, ◌*◌, ◌/◌, ◌%◌, ◌≤◌, ◌<◌, div-add-mod', mul-le-mul_right, arith, lt-ltb, le-ltb, le-leb, eq-eqb, ne_eqb, eqb, length, get_or, set}
+use mathlib.Core.Bool.{and-false, false≢true}
+use mathlib.Core.Logic.{by_cases}
 use native.Mathlib.Decide.{ℕ_discrete, dec_lt}
-use borrow.Author.Tests.{lt-ltb, le-ltb, le-leb, lt-leb, eq-eqb, ne_eqb}
+use borrow.Author.Tests.{lt-leb}
 use lib.Arith.{digits_div, digits_mod, digits_lt}
-use lib.Dec.{eqb}
-use lib.ListN.{length, get_or, set}
 use Rattle.grid.specs.Grid.{upd, within, rowed, boxed, Inside}
 use Rattle.grid.proofs.Upd.{get_or-upd, upd_ext, upd-upd, upd_id, upd_then, set-upd}
 

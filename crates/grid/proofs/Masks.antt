@@ -1,7 +1,5 @@
 -- The planes of a mask buffer as one grid, width strips wide and planes * h rows high. Assumes nothing.
-use Prim.Native.Nat.{ℕ, ◌+◌, ◌-◌, ◌*◌, ◌≤◌}
-use native.Mathlib.Nat.{mul-le-mul_right}
-use native.Mathlib.Omega.{arith}
+use Rattle.std.proofs.Common.{ℕ, ◌+◌, ◌-◌, ◌*◌, ◌≤◌, mul-le-mul_right, arith}
 use Rattle.grid.specs.Grid.{Inside}
 use Rattle.grid.specs.Mask.{Plane}
 

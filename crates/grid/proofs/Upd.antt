@@ -1,12 +1,6 @@
 -- The laws of `upd`: its length, its elements, one after another, one store. Assumes nothing.
-use mathlib.Core.Path.{◌≡◌, refl, sym, ap, ap₂, ◌∙◌}
-use mathlib.Core.List.{List, [], ◌∷◌}
-use mathlib.Core.Bool.{cond}
-use Prim.Native.Nat.{ℕ, zero, suc, ◌<◌}
-use native.Mathlib.Nat.{not-suc-le-zero, le_of_suc-le-suc}
-use native.Mathlib.Omega.{arith}
-use lib.Dec.{eqb, eqb-suc-suc, eqb-zero-suc, eqb-suc-zero}
-use lib.ListN.{length, get_or, set}
+use Rattle.std.proofs.Common.{◌≡◌, refl, sym, ap, ap₂, ◌∙◌, List, [], ◌∷◌, cond, ℕ, zero, suc, ◌<◌, not-suc-le-zero, le_of_suc-le-suc, arith, eqb, length, get_or, set}
+use lib.Dec.{eqb-suc-suc, eqb-zero-suc, eqb-suc-zero}
 use Rattle.grid.specs.Grid.{upd}
 
 pub length-upd : (f : ℕ → ℕ → ℕ) (l : List ℕ) → length (upd f l) ≡ length l

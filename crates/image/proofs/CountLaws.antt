@@ -1,9 +1,6 @@
 -- A room that passes its test has as many objects as OBCD blocks directly under ROOM: what the table of objects asks of it.
-use mathlib.Core.Path.{◌≡◌, refl, subst⁻¹}
-use mathlib.Core.List.{List}
-use mathlib.Core.Bool.{Bool, true, false, cond, ◌&&◌}
-use Prim.Native.Nat.{ℕ, ◌≤◌}
-use lib.ListN.{length}
+use Rattle.std.proofs.Common.{◌≡◌, refl, List, Bool, true, false, cond, ◌&&◌, ℕ, ◌≤◌, length}
+use mathlib.Core.Path.{subst⁻¹}
 use Rattle.block.specs.Tree.{well_formed}
 use Rattle.table.specs.declared.Test.{Test}
 use Rattle.table.specs.declared.Test.TheVariants as test

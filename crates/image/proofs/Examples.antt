@@ -1,8 +1,5 @@
 -- A small room worked out, so that the definitions are seen at work. Assumes nothing.
-use mathlib.Core.Path.{◌≡◌, refl}
-use mathlib.Core.List.{List, [], ◌∷◌}
-use mathlib.Core.Bool.{true, false}
-use Prim.Native.Nat.{ℕ}
+use Rattle.std.proofs.Common.{◌≡◌, refl, List, [], ◌∷◌, true, false, ℕ}
 use Rattle.block.specs.Tree.{block_end, walk, run, tagged, payload}
 use Rattle.block.specs.declared.Found.TheVariants.{At, Missing}
 use Rattle.bits.specs.Bits.{low_bits, bits_of}
@@ -69,14 +66,14 @@ states = (refl, refl, refl, refl, refl, refl, refl, refl)
 -- for plane 2, which has no chunk
 pixels : (image_colour 4 room 1 1 0 0 3 ≡ 255) × (image_clear 4 255 room 1 1 0 0 3 ≡ true) × (image_clear 4 254 room 1 1 0 0 3 ≡ false)
     × (image_bits 4 room 1 1 1 0 0 ≡ 0xF0) × (image_bits 4 room 1 1 2 0 0 ≡ 0)
-unfolding image_colour image_clear image_bits image_strip image_fault image_test smap_and_planes_test plane_test block_test table_right offsets_right offset_right leftmost strip_test
-    strip_at body_of body_end offset_at strip_of coded_of placed kind_of five_from decode low_bits bits_of mask_at rows_at
+unfolding image_colour image_clear image_bits image_strip image_fault image_test smap_and_planes_test plane_test block_test table_right offsets_right
+    offset_right leftmost strip_test strip_at body_of body_end offset_at strip_of coded_of placed kind_of five_from decode low_bits bits_of mask_at rows_at
     rows_of state_block image_width image_height object_id image_block object_block first_of has_id tagged run walk block_end payload
 pixels = (refl, refl, refl, refl, refl)
 
 -- the image passes with any count of planes; one without SMAP is 2: here the payload of the OBIM of id 9
 faults : (image_fault 0 room 1 1 ≡ Passed) × (image_fault 4 room 1 1 ≡ Passed) × (image_test 1 1 1 room 16 40 ≡ Refused 2)
-unfolding image_fault image_test smap_and_planes_test plane_test block_test table_right offsets_right offset_right leftmost strip_test strip_at body_of body_end offset_at strip_of coded_of
-    placed kind_of five_from decode low_bits bits_of rows_at rows_of state_block image_width image_height object_id image_block object_block first_of has_id tagged run walk
-    block_end payload
+unfolding image_fault image_test smap_and_planes_test plane_test block_test table_right offsets_right offset_right leftmost strip_test strip_at body_of
+    body_end offset_at strip_of coded_of placed kind_of five_from decode low_bits bits_of rows_at rows_of state_block image_width image_height object_id
+    image_block object_block first_of has_id tagged run walk block_end payload
 faults = (refl, refl, refl)

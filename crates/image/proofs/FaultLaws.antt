@@ -1,9 +1,5 @@
 -- Laws of an image's test: what passes it.
-use mathlib.Core.Path.{◌≡◌}
-use mathlib.Core.List.{List}
-use mathlib.Core.Bool.{false}
-use Prim.Native.Nat.{ℕ, ◌+◌, ◌/◌, ◌≤◌}
-use native.Mathlib.Omega.{arith}
+use Rattle.std.proofs.Common.{◌≡◌, List, false, ℕ, ◌+◌, ◌/◌, ◌≤◌, arith}
 use Rattle.block.specs.Tag.{tag-SMAP}
 use Rattle.block.specs.Tree.{find_tag}
 use Rattle.block.specs.declared.Found.{Found}

@@ -1,15 +1,9 @@
 -- Laws of the table of objects: the walk over the OBCDs, the walk over the OBIMs, and what the filled table says.
-use mathlib.Core.Path.{◌≡◌, refl, ap, sym, ◌∙◌, subst, subst⁻¹}
-use mathlib.Core.List.{List, [], ◌∷◌}
-use mathlib.Core.Bool.{Bool, true, false, ◌&&◌, cond, and-false}
+use Rattle.std.proofs.Common.{◌≡◌, refl, ap, sym, ◌∙◌, subst, List, [], ◌∷◌, Bool, true, false, ◌&&◌, cond, ℕ, zero, suc, ◌+◌, ◌*◌, ◌≤◌, ◌<◌, add-one, arith, eqb, get_or, length, drop, ne_eqb, eqb-true}
+use mathlib.Core.Path.{subst⁻¹}
+use mathlib.Core.Bool.{and-false}
 use mathlib.Core.Logic.{by_cases}
-use Prim.Native.Nat.{ℕ, zero, suc, ◌+◌, ◌*◌, ◌≤◌, ◌<◌}
 use native.Mathlib.Decide.{ℕ_discrete}
-use native.Mathlib.Numerals.{add-one}
-use native.Mathlib.Omega.{arith}
-use lib.Dec.{eqb}
-use lib.ListN.{get_or, length, drop}
-use borrow.Author.Tests.{ne_eqb, eqb-true}
 use Rattle.number.specs.Number.{le16}
 use Rattle.block.specs.Tag.{tag-OBCD, tag-OBIM}
 use Rattle.block.specs.Tree.{tagged, find_tag, nth_tag}
@@ -48,7 +42,8 @@ module _ (s : List ℕ) where
   walked_none = record { few = omega arith; rest = refl }
 
   module _ (at n b z : ℕ) (w : Walked s at n) (found : At b z ≡ find_tag tag-OBCD s at (length s)) where
-    first : (At b z ≡ nth_tag tag-OBCD s 8 (length s) n) × (tagged tag-OBCD s z (length s) ≡ drop (suc n) (tagged tag-OBCD s 8 (length s))) × (n < object_count s)
+    first : (At b z ≡ nth_tag tag-OBCD s 8 (length s) n) × (tagged tag-OBCD s z (length s) ≡ drop (suc n) (tagged tag-OBCD s 8 (length s)))
+        × (n < object_count s)
     first = drop-first (tagged tag-OBCD s 8 (length s)) n (At b z) (tagged tag-OBCD s z (length s))
         (sym (walk-found tag-OBCD s (length s) at b z found) ∙ w.rest)
 
@@ -192,12 +187,14 @@ module _ (s t t' : List ℕ) (objects b z : ℕ) where
       go true e = ap (λ (k : ℕ). cond (eqb start 0) (get_or (row_from s k (At p y) (b + 8) z) c 0) old) (eqb-true (le16 s p) i e)
       go false e = refl
 
-  pub offered_row : (p y : ℕ) → At p y ≡ imhd_of s (At b z) → RowOffered t t' objects (row_from s (le16 s p) (At p z) (b + 8) z) → Offered s t t' objects (At b z)
+  pub offered_row : (p y : ℕ) → At p y ≡ imhd_of s (At b z) → RowOffered t t' objects (row_from s (le16 s p) (At p z) (b + 8) z)
+      → Offered s t t' objects (At b z)
   unfolding has_id
   offered_row p y at o =
       record {
         same = o.same;
-        new = λ q c one le k. o.new q c one le k ∙ offered_cell p y (imhd_of s (At b z)) at (get_or t (8 * q) 0) (get_or t (8 * q + 6) 0) c (get_or t (8 * q + c) 0);
+        new = λ q c one le k. o.new q c one le k ∙ offered_cell p y (imhd_of s (At b z)) at (get_or t (8 * q) 0) (get_or t (8 * q + 6) 0) c
+            (get_or t (8 * q + c) 0);
       }
 
   pub offered_none : Missing ≡ imhd_of s (At b z) → t' ≡ t → Offered s t t' objects (At b z)

@@ -1,12 +1,8 @@
 -- Laws of objects and their images: where they lie, and which states there are.
-use mathlib.Core.Path.{◌≡◌, refl, sym, ◌∙◌, subst⁻¹}
-use mathlib.Core.List.{List, [], ◌∷◌}
-use mathlib.Core.Bool.{Bool, true, false, ◌&&◌, cond, not, and-false}
-use Prim.Native.Nat.{ℕ, suc, ◌+◌, ◌-◌, ◌≤◌}
-use native.Mathlib.Omega.{arith}
-use lib.Dec.{leb}
-use lib.ListN.{get_or, length}
-use borrow.Author.Tests.{ne_eqb, leb-true, not-true, not-false}
+use Rattle.std.proofs.Common.{◌≡◌, refl, sym, ◌∙◌, List, [], ◌∷◌, Bool, true, false, ◌&&◌, cond, not, ℕ, suc, ◌+◌, ◌-◌, ◌≤◌, arith, leb, get_or, length, ne_eqb, leb-true}
+use mathlib.Core.Path.{subst⁻¹}
+use mathlib.Core.Bool.{and-false}
+use borrow.Author.Tests.{not-true, not-false}
 use Rattle.number.proofs.BoolLaws.{and_left, and_right}
 use Rattle.block.specs.Tag.{tag-OBCD, tag-OBIM, tag-IM}
 use Rattle.block.specs.Tree.{tagged, nth_tag, find_tag, is_at, Inside}
@@ -99,7 +95,10 @@ module _ (s : List ℕ) where
 
   -- what the tests of an object and of a state say
   pub object_right : (o : ℕ) → is_object s o ≡ true → (1 ≤ o) × (o ≤ object_count s)
-  object_right o h = (leb-true 1 o (and_left (leb 1 o) (leb o (object_count s)) h), leb-true o (object_count s) (and_right (leb 1 o) (leb o (object_count s)) h))
+  object_right o h = (
+    leb-true 1 o (and_left (leb 1 o) (leb o (object_count s)) h),
+    leb-true o (object_count s) (and_right (leb 1 o) (leb o (object_count s)) h),
+  )
 
   module _ (objects : ℕ) (all : objects ≡ object_count s) (o : ℕ) where
     pub not_object : not (leb 1 o && leb o objects) ≡ true → is_object s o ≡ false

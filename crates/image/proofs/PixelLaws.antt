@@ -1,7 +1,5 @@
 -- Laws of an image's pixels: what they are in the blocks that were found.
-use mathlib.Core.Path.{◌≡◌}
-use mathlib.Core.List.{List}
-use Prim.Native.Nat.{ℕ, ◌+◌}
+use Rattle.std.proofs.Common.{◌≡◌, List, ℕ, ◌+◌}
 use Rattle.block.specs.Tag.{tag-SMAP}
 use Rattle.block.specs.Tree.{find_tag}
 use Rattle.block.specs.declared.Found.TheVariants.{At}

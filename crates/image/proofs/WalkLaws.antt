@@ -1,13 +1,7 @@
 -- Laws of a walk from one block of a tag to the next: the list of such blocks from a place on, by its first.
-use mathlib.Core.Path.{◌≡◌, refl, sym, subst⁻¹}
-use mathlib.Core.List.{List, [], ◌∷◌}
-use mathlib.Core.Bool.{Bool, true, false}
-use Prim.Native.Nat.{ℕ, zero, suc, ◌+◌, ◌-◌, ◌≤◌, ◌<◌}
-use native.Mathlib.Nat.{not-suc-le-zero, le_of_suc-le-suc}
-use native.Mathlib.Omega.{arith}
-use lib.Dec.{eqb}
-use lib.ListN.{get_or, length}
-use borrow.Author.Tests.{eqb-true, eqb-false}
+use Rattle.std.proofs.Common.{◌≡◌, refl, sym, List, [], ◌∷◌, Bool, true, false, ℕ, zero, suc, ◌+◌, ◌-◌, ◌≤◌, ◌<◌, not-suc-le-zero, le_of_suc-le-suc, arith, eqb, get_or, length, eqb-true}
+use mathlib.Core.Path.{subst⁻¹}
+use borrow.Author.Tests.{eqb-false}
 use Rattle.number.specs.Number.{be32}
 use Rattle.block.specs.Tree.{block_end, tagged, find_tag, is_at}
 use Rattle.block.specs.declared.Found.{Found}

@@ -1,8 +1,5 @@
 -- Laws of an answer of two parts: a refused call has its number alone, an accepted one its value alone, and each part can be taken out again.
-use Prim.Native.Nat.{ℕ, ◌*◌, ◌/◌, ◌%◌, ◌<◌}
-use mathlib.Core.Path.{◌≡◌, sym}
-use native.Mathlib.Nat.{add-zero, zero-add}
-use native.Mathlib.Omega.{arith}
+use Rattle.std.proofs.Common.{ℕ, ◌*◌, ◌/◌, ◌%◌, ◌<◌, ◌≡◌, sym, add-zero, zero-add, arith}
 use Rattle.kildegrom.specs.Word.{word}
 
 pub refused-word : (n : ℕ) → n ≡ word n 0

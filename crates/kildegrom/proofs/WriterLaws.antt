@@ -1,9 +1,5 @@
 -- The length of a written block fits 32 bits. Assumes nothing.
-use Prim.Native.Nat.{ℕ, ◌<◌}
-use mathlib.Core.Path.{◌≡◌, refl}
-use mathlib.Core.List.{List}
-use native.Mathlib.Omega.{arith}
-use lib.ListN.{length}
+use Rattle.std.proofs.Common.{ℕ, ◌<◌, ◌≡◌, refl, List, arith, length}
 use Rattle.block_writer.specs.Call.{smap_outcome, plane_outcome, answer_of, target_after, value}
 use Rattle.block_writer.specs.declared.Wrote.{Wrote}
 use Rattle.block_writer.specs.declared.Wrote.TheVariants.{Block, Refused}

@@ -1,15 +1,8 @@
 -- Laws of one strip's bytes: a buffer put through a function byte by byte, boxes one strip wide, and entries one over the other.
 -- Assumes nothing.
-use mathlib.Core.Path.{◌≡◌, refl, sym, ap, ap₂, ◌∙◌}
-use mathlib.Core.Bool.{Bool, true, false, ◌&&◌, cond, true≢false}
-use mathlib.Core.List.{List}
+use Rattle.std.proofs.Common.{◌≡◌, refl, sym, ap, ap₂, ◌∙◌, Bool, true, false, ◌&&◌, cond, true≢false, List, ℕ, ◌+◌, ◌-◌, ◌*◌, ◌/◌, ◌%◌, ◌≤◌, ◌<◌, div-add-mod', mod-lt, mul-le-mul_right, arith, lt-ltb, le-ltb, eq-eqb, ne_eqb, ltb-true, eqb-true, ltb, eqb}
 use mathlib.Core.Logic.{by_cases}
-use Prim.Native.Nat.{ℕ, ◌+◌, ◌-◌, ◌*◌, ◌/◌, ◌%◌, ◌≤◌, ◌<◌}
 use native.Mathlib.Decide.{ℕ_discrete, dec_lt}
-use native.Mathlib.Nat.{div-add-mod', mod-lt, mul-le-mul_right}
-use native.Mathlib.Omega.{arith}
-use borrow.Author.Tests.{lt-ltb, le-ltb, eq-eqb, ne_eqb, ltb-true, eqb-true}
-use lib.Dec.{ltb, eqb}
 use Rattle.grid.specs.Grid.{upd, within, boxed}
 use Rattle.grid.proofs.Upd.{upd_id}
 use Rattle.grid.proofs.Box.{within_yes, within-lo, within-hi, within_cases, boxed_in, boxed_off, boxed_out}

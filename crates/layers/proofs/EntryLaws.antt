@@ -1,12 +1,5 @@
 -- Laws of an entry that could be drawn: what its tests say of its numbers, and what its image's strips and planes are. Assumes nothing.
-use mathlib.Core.Path.{◌≡◌, refl, sym, ap, ap₂, ◌∙◌}
-use mathlib.Core.Bool.{Bool, true, false, not, cond, ◌&&◌}
-use mathlib.Core.List.{List}
-use Prim.Native.Nat.{ℕ, ◌+◌, ◌-◌, ◌*◌, ◌/◌, ◌%◌, ◌≤◌, ◌<◌}
-use native.Mathlib.Omega.{arith}
-use borrow.Author.Tests.{leb-true, ltb-true}
-use lib.Dec.{leb, ltb, eqb}
-use lib.ListN.{get_or}
+use Rattle.std.proofs.Common.{◌≡◌, refl, sym, ap, ap₂, ◌∙◌, Bool, true, false, not, cond, ◌&&◌, List, ℕ, ◌+◌, ◌-◌, ◌*◌, ◌/◌, ◌%◌, ◌≤◌, ◌<◌, arith, leb-true, ltb-true, leb, ltb, eqb, get_or}
 use Rattle.number.proofs.BoolLaws.{and_left, and_right}
 use Rattle.block.specs.Tag.{tag-SMAP}
 use Rattle.block.specs.Tree.{find_tag, is_at}
@@ -169,7 +162,8 @@ module _ (s : List ℕ) (r : Room) (e : Entry) (p : Paintable s r e) where
     unfolding image_clear image_colour picture_over
     same-pixel j y c below = rw (same-strip j) (go (clear_code (strip_in s m j) && eqb (get_or (pixels_of (strip_in s m j)) (8 * y + c) 0) r.clear))
       where
-        go : (b : Bool) → cond (not b) (get_or (pixels_of (strip_in s m j)) (8 * y + c) 0) below ≡ cond b below (get_or (pixels_of (strip_in s m j)) (8 * y + c) 0)
+        go : (b : Bool) → cond (not b) (get_or (pixels_of (strip_in s m j)) (8 * y + c) 0) below
+            ≡ cond b below (get_or (pixels_of (strip_in s m j)) (8 * y + c) 0)
         go true = refl
         go false = refl
 

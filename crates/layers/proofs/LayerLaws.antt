@@ -1,13 +1,5 @@
 -- Laws of a strip rebuilt: the room's own bytes, then entries one over the other, then strip after strip. Assumes nothing.
-use mathlib.Core.Path.{◌≡◌, refl, sym, ap, ◌∙◌}
-use mathlib.Core.Bool.{Bool, true, false, ◌&&◌}
-use mathlib.Core.List.{List, [], ◌∷◌, ◌++◌}
-use Prim.Native.Nat.{ℕ, ◌+◌, ◌≤◌, ◌<◌}
-use native.Mathlib.Numerals.{add-one}
-use native.Mathlib.Omega.{arith}
-use borrow.Author.Tests.{le-ltb, eqb-true}
-use lib.Dec.{ltb, eqb}
-use lib.ListN.{get_or}
+use Rattle.std.proofs.Common.{◌≡◌, refl, sym, ap, ◌∙◌, Bool, true, false, ◌&&◌, List, [], ◌∷◌, ◌++◌, ℕ, ◌+◌, ◌≤◌, ◌<◌, add-one, arith, le-ltb, eqb-true, ltb, eqb, get_or}
 use Rattle.grid.specs.Grid.{upd}
 use Rattle.grid.proofs.Upd.{upd_ext, upd_then}
 use Rattle.scene.specs.Painting.{Room, Layout, covers, layered, fresh_byte, new_byte, rebuilt_bytes}

@@ -1,12 +1,7 @@
 -- What the bytes are after each limb below n is put: limb by limb, and byte by byte where a limb is put as it was.
-use mathlib.Core.Path.{◌≡◌, refl, ap, ◌∙◌}
-use mathlib.Core.List.{List}
+use Rattle.std.proofs.Common.{◌≡◌, refl, ap, ◌∙◌, List, ℕ, zero, suc, ◌+◌, ◌*◌, ◌/◌, ◌%◌, ◌-◌, ◌<◌, ◌≤◌, div-add-mod', not-suc-le-zero, add-zero, arith, length, get_or}
 use mathlib.Core.Logic.{by_cases}
-use Prim.Native.Nat.{ℕ, zero, suc, ◌+◌, ◌*◌, ◌/◌, ◌%◌, ◌-◌, ◌<◌, ◌≤◌}
 use native.Mathlib.Decide.{dec_lt, ℕ_discrete}
-use native.Mathlib.Nat.{div-add-mod', not-suc-le-zero, add-zero}
-use native.Mathlib.Omega.{arith}
-use lib.ListN.{length, get_or}
 use lib.Seq.{sets, length-sets}
 use Rattle.number.proofs.StoreLaws.{sets_below, sets_above, sets_in}
 use Rattle.number.specs.Number.{le32, le32_bytes}

@@ -1,14 +1,9 @@
 -- Laws of the question whether a limb draws.
-use mathlib.Core.Path.{◌≡◌, refl, sym, ap, ◌∙◌}
-use mathlib.Core.Bool.{Bool, true, false, ◌&&◌, not, cond, and-false, and-true}
-use mathlib.Core.List.{List}
+use Rattle.std.proofs.Common.{◌≡◌, refl, sym, ap, ◌∙◌, Bool, true, false, ◌&&◌, not, cond, List, ℕ, ◌+◌, ◌<◌, ◌≤◌, arith, lt-ltb, le-ltb, le-leb, leb, eqb, length}
+use mathlib.Core.Bool.{and-false, and-true}
 use mathlib.Core.Logic.{by_cases}
-use Prim.Native.Nat.{ℕ, ◌+◌, ◌<◌, ◌≤◌}
 use native.Mathlib.Decide.{dec_lt}
-use native.Mathlib.Omega.{arith}
-use borrow.Author.Tests.{lt-ltb, le-ltb, le-leb, lt-leb}
-use lib.Dec.{leb, eqb}
-use lib.ListN.{length}
+use borrow.Author.Tests.{lt-leb}
 use Rattle.limbs.specs.declared.Limb.{Limb}
 use Rattle.limbs.specs.declared.Drawn.{Drawn}
 use Rattle.limbs.specs.declared.Drawn.TheVariants.{Refused, Nothing, Picture}

@@ -1,8 +1,5 @@
 -- Computed examples: limbs that are ticked and asked. Crate costume's examples start them.
-use mathlib.Core.Path.{◌≡◌, refl}
-use mathlib.Core.List.{List, [], ◌∷◌, ◌++◌}
-use Prim.Native.Nat.{ℕ, zero, suc}
-use lib.ListN.{replicate}
+use Rattle.std.proofs.Common.{◌≡◌, refl, List, [], ◌∷◌, ◌++◌, ℕ, zero, suc, replicate}
 use Rattle.number.specs.Number.{le32_bytes}
 use Rattle.limbs.specs.declared.Limb.{Limb}
 use Rattle.limbs.specs.declared.Drawn.{Drawn}
@@ -31,7 +28,8 @@ bytes a s k h p n from at = a ∷ s ∷ k ∷ h ∷ p ∷ n ∷ 7 ∷ 8 ∷ from
 
 -- a tick: limb 0 reads 12, a picture; limb 2 reads 13, a picture, at its last byte, and stays there
 ticking : tick_bytes payload (lent (bytes 1 0 0 0 0 3 0 0) (bytes 1 0 1 1 5 2 3 4)) 30 ≡ lent (bytes 1 0 0 1 18 3 0 1) (bytes 1 0 1 1 19 2 3 4)
-unfolding lent bytes payload commands tick_bytes tick_number each_limb put_limb le32_bytes ticked_limb obeyed moved_on limbs_right all limb_right place_right limb_at
+unfolding lent bytes payload commands tick_bytes tick_number each_limb put_limb le32_bytes ticked_limb obeyed moved_on limbs_right all limb_right place_right
+    limb_at
 ticking = refl
 
 -- a limb whose place is past its window is wrong

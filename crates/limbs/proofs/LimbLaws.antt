@@ -1,15 +1,9 @@
 -- Laws of the limbs' bytes: what a run of stores leaves, what a limb that is put leaves, and a test of every number below a bound.
-use mathlib.Core.Path.{◌≡◌, refl, ap, ap₂, ◌∙◌}
-use mathlib.Core.Bool.{Bool, true, false, ◌&&◌, not, and-false, or-true}
-use mathlib.Core.List.{List}
+use Rattle.std.proofs.Common.{◌≡◌, refl, ap, ap₂, ◌∙◌, Bool, true, false, ◌&&◌, not, List, ℕ, zero, suc, ◌+◌, ◌*◌, ◌-◌, ◌<◌, ◌≤◌, not-suc-le-zero, arith, lt-ltb, le-ltb, le-leb, leb-true, ltb-true, eq-eqb, ne_eqb, ltb, leb, length, get_or, length-set}
+use mathlib.Core.Bool.{and-false, or-true}
 use mathlib.Core.Logic.{by_cases}
-use Prim.Native.Nat.{ℕ, zero, suc, ◌+◌, ◌*◌, ◌-◌, ◌<◌, ◌≤◌}
 use native.Mathlib.Decide.{dec_lt, ℕ_discrete}
-use native.Mathlib.Nat.{not-suc-le-zero}
-use native.Mathlib.Omega.{arith}
-use borrow.Author.Tests.{lt-ltb, le-ltb, le-leb, lt-leb, leb-true, ltb-true, eq-eqb, ne_eqb}
-use lib.Dec.{ltb, leb}
-use lib.ListN.{length, get_or, length-set}
+use borrow.Author.Tests.{lt-leb}
 use lib.Seq.{sets}
 use Rattle.number.proofs.StoreLaws.{sets_below, sets_above}
 use Rattle.number.proofs.BoolLaws.{both}

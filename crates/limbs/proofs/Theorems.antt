@@ -1,15 +1,8 @@
 -- What an accepted tick leaves, as a reader of document 01 asks for it: limb by limb, the bytes beside them, and that the next tick and the question
 -- whether a limb draws are accepted. A payload is at most 4,294,967,296 bytes long here, as any block's is: its size is a u32.
-use mathlib.Core.Path.{◌≡◌, refl, sym, ap, ◌∙◌}
-use mathlib.Core.Bool.{true, ◌||◌}
-use mathlib.Core.List.{List}
+use Rattle.std.proofs.Common.{◌≡◌, refl, sym, ap, ◌∙◌, true, ◌||◌, List, ℕ, ◌+◌, ◌*◌, ◌-◌, ◌<◌, ◌≤◌, arith, le-ltb, le-leb, leb, length, get_or, length-drop}
 use mathlib.Core.Logic.{by_cases}
-use Prim.Native.Nat.{ℕ, ◌+◌, ◌*◌, ◌-◌, ◌<◌, ◌≤◌}
 use native.Mathlib.Decide.{ℕ_discrete}
-use native.Mathlib.Omega.{arith}
-use borrow.Author.Tests.{le-ltb, le-leb}
-use lib.Dec.{leb}
-use lib.ListN.{length, get_or, length-drop}
 use Rattle.number.proofs.BoolLaws.{both}
 use Rattle.limbs.specs.declared.Limb.{Limb}
 use Rattle.limbs.specs.Limb.{idle, limb_at, each_limb, all, place_right, limb_right, places_right, limbs_right, draws_number}

@@ -1,15 +1,7 @@
 -- Laws of a tick.
-use mathlib.Core.Path.{◌≡◌, refl, sym, ap, ◌∙◌}
-use mathlib.Core.Bool.{Bool, true, false, ◌&&◌, cond}
-use mathlib.Core.List.{List}
-use Prim.Native.Nat.{ℕ, ◌+◌, ◌-◌, ◌<◌, ◌≤◌}
+use Rattle.std.proofs.Common.{◌≡◌, refl, sym, ap, ◌∙◌, Bool, true, false, ◌&&◌, cond, List, ℕ, ◌+◌, ◌-◌, ◌<◌, ◌≤◌, arith, lt-ltb, le-ltb, leb-true, ltb-true, ltb-false, eq-eqb, ne_eqb, ltb, leb, eqb, length, get_or, drop, length-drop, get_or-drop}
 use mathlib.Core.Logic.{by_cases}
 use native.Mathlib.Decide.{ℕ_discrete}
-use native.Mathlib.Omega.{arith}
-use borrow.Author.Tests.{lt-ltb, le-ltb, leb-true, ltb-true, ltb-false, eq-eqb, ne_eqb}
-use lib.Dec.{ltb, leb, eqb}
-use lib.ListN.{length, get_or, drop, length-drop}
-use lib.Seq.{get_or-drop}
 use Rattle.number.proofs.BoolLaws.{both}
 use Rattle.limbs.specs.declared.Limb.{Limb}
 use Rattle.limbs.specs.Limb.{flag, each_limb, limbs_right, limb_right}

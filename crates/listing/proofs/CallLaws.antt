@@ -1,11 +1,5 @@
 -- Laws of the two calls: the listing by what the room's test gives, and what a call answers and leaves in the lent buffer.
-use mathlib.Core.Path.{◌≡◌, refl, sym}
-use mathlib.Core.List.{List, ◌++◌}
-use Prim.Native.Nat.{ℕ, ◌+◌, ◌≤◌, ◌<◌}
-use native.Mathlib.Omega.{arith}
-use borrow.Author.Tests.{lt-ltb, le-ltb}
-use lib.ListN.{length, take}
-use lib.Seq.{length-take-le}
+use Rattle.std.proofs.Common.{◌≡◌, refl, sym, List, ◌++◌, ℕ, ◌≤◌, ◌<◌, arith, lt-ltb, le-ltb, length, take, length-take-le}
 use Rattle.room.specs.Test.{room_test, nothing}
 use Rattle.room.specs.declared.Room.{Room}
 use Rattle.room.specs.declared.Tested.TheVariants.{Right, Refused}

@@ -1,7 +1,5 @@
 -- Document 01's listing example, byte for byte: a room of 16 by 2 pixels with one plane and one object, and its two lines.
-use mathlib.Core.Path.{◌≡◌, refl}
-use mathlib.Core.List.{List, [], ◌∷◌, ◌++◌}
-use Prim.Native.Nat.{ℕ}
+use Rattle.std.proofs.Common.{◌≡◌, refl, List, [], ◌∷◌, ◌++◌, ℕ}
 use lib.IntN.{negsuc}
 use Rattle.bits.specs.Bits.{low_bits, bits_of}
 use Rattle.strip.specs.Strip.{decode}
@@ -46,10 +44,10 @@ line_2 =
     ++ (0x32 ∷ 0x35 ∷ 0x20 ∷ 0x34 ∷ 0x30 ∷ 0x0A ∷ [])
 
 pub listed-room : listing_of room ≡ line_1 ++ line_2
-unfolding low_bits bits_of decode five_from kind_of placed raw_of coded_of strip_of container block_end walk run block_ok well_formed tagged payload each_has offset_at
-    offset_right offsets_right table_right body_end body_of strip_at strip_test leftmost block_test headed_in background_in needed_in objects_right trns_in sizes_right
-    room_of sized head_of plane_test smap_and_planes_test pictures_test short after_head room_test cdhd_at object_block digits decimal field signed_field room_line box_part walk_part
-    object_line object_lines refused_line listing_of
+unfolding low_bits bits_of decode five_from kind_of placed raw_of coded_of strip_of container block_end walk run block_ok well_formed tagged payload each_has
+    offset_at offset_right offsets_right table_right body_end body_of strip_at strip_test leftmost block_test headed_in background_in needed_in objects_right
+    trns_in sizes_right room_of sized head_of plane_test smap_and_planes_test pictures_test short after_head room_test cdhd_at object_block digits decimal
+    field signed_field room_line box_part walk_part object_line object_lines refused_line listing_of
 listed-room = refl
 
 -- an empty input is `refused 1`

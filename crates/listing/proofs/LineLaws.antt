@@ -1,12 +1,8 @@
 -- Laws of objects' lines: the line of an object from where its header stands, and the lines of one object more.
-use mathlib.Core.Path.{◌≡◌, refl, subst⁻¹}
-use mathlib.Core.List.{List, [], ◌++◌}
+use Rattle.std.proofs.Common.{◌≡◌, refl, List, [], ◌++◌, ℕ, zero, suc, ◌+◌, ◌≤◌, ◌<◌, add-one, arith, get_or, length, length-append}
+use mathlib.Core.Path.{subst⁻¹}
 use mathlib.Core.Logic.{by_cases}
-use Prim.Native.Nat.{ℕ, zero, suc, ◌+◌, ◌≤◌, ◌<◌}
 use native.Mathlib.Decide.{dec_lt}
-use native.Mathlib.Numerals.{add-one}
-use native.Mathlib.Omega.{arith}
-use lib.ListN.{get_or, length, length-append}
 use Rattle.block.specs.Tree.{Inside}
 use Rattle.block.specs.declared.Found.TheVariants as found
 use Rattle.objects.specs.Object.{cdhd_at, cdhd_in, object_block}

@@ -1,9 +1,5 @@
 -- Laws of text put into a buffer: one text behind another, and a text at the front.
-use mathlib.Core.Path.{◌≡◌, refl, sym, ap, ◌∙◌, subst}
-use mathlib.Core.List.{List, [], ◌∷◌, ◌++◌, append_assoc}
-use Prim.Native.Nat.{ℕ, ◌+◌, ◌≤◌}
-use native.Mathlib.Omega.{arith}
-use lib.ListN.{length, take, drop, set, take-append-drop, length-append, length-set}
+use Rattle.std.proofs.Common.{◌≡◌, refl, sym, ap, ◌∙◌, subst, List, [], ◌∷◌, ◌++◌, append_assoc, ℕ, ◌+◌, ◌≤◌, arith, length, take, drop, set, take-append-drop, length-append, length-set}
 use lib.Seq.{sets, length-sets, take-length}
 use Rattle.number.proofs.StoreLaws.{sets-append, sets_is}
 use Rattle.number.specs.Buffer.{over}

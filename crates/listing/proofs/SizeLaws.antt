@@ -1,13 +1,6 @@
 -- How long a listing is: at most 8,099 bytes, so that every listing fits a buffer of 8,192.
-use mathlib.Core.Path.{◌≡◌, refl}
-use mathlib.Core.Bool.{Bool, true, false, cond}
-use mathlib.Core.List.{List}
-use Prim.Native.Nat.{ℕ, zero, suc, ◌+◌, ◌-◌, ◌*◌, ◌≤◌, ◌<◌}
-use native.Mathlib.Numerals.{add-one}
-use native.Mathlib.Omega.{arith}
-use lib.Dec.{ltb}
+use Rattle.std.proofs.Common.{◌≡◌, refl, Bool, true, false, cond, List, ℕ, zero, suc, ◌+◌, ◌-◌, ◌*◌, ◌≤◌, ◌<◌, add-one, arith, ltb, get_or, length, length-append}
 use lib.IntN.{pos, negsuc}
-use lib.ListN.{get_or, length, length-append}
 use Rattle.number.specs.Number.{le16, signed16}
 use Rattle.block.specs.declared.Found.{Found}
 use Rattle.block.specs.declared.Found.TheVariants as found

@@ -1,14 +1,8 @@
 -- Boxes whose cells agree, and boxes as wide as their grid, which are runs of cells that stand one after another.
-use mathlib.Core.Path.{◌≡◌, sym, ap, ◌∙◌}
-use mathlib.Core.List.{List, ◌++◌}
+use Rattle.std.proofs.Common.{◌≡◌, sym, ap, ◌∙◌, List, ◌++◌, cond, ℕ, ◌+◌, ◌-◌, ◌*◌, ◌/◌, ◌%◌, ◌≤◌, ◌<◌, div-add-mod', mod-lt, mul-le-mul_right, mul-zero, arith, length, get_or, take, drop, replicate, length-take, ext_get_or, get_or-take, get_or-drop, get_or-append-add}
 use mathlib.Core.Logic.{by_cases}
-use mathlib.Core.Bool.{cond}
-use Prim.Native.Nat.{ℕ, ◌+◌, ◌-◌, ◌*◌, ◌/◌, ◌%◌, ◌≤◌, ◌<◌}
 use native.Mathlib.Decide.{dec_lt}
-use native.Mathlib.Nat.{div-add-mod', mod-lt, mul-le-mul_right, mul-zero}
-use native.Mathlib.Omega.{arith}
-use lib.ListN.{length, get_or, take, drop, replicate, length-take, get_or-replicate, get_or-append}
-use lib.Seq.{ext_get_or, get_or-take, get_or-drop, get_or-append-add}
+use lib.ListN.{get_or-replicate, get_or-append}
 use Rattle.grid.specs.Grid.{upd, within, boxed}
 use Rattle.grid.proofs.Upd.{length-upd, get_or-upd, upd_ext}
 use Rattle.grid.proofs.Box.{within_yes, within-lo, within-hi, boxed_in, boxed_off, boxed_out, boxed_ext}

@@ -1,13 +1,7 @@
 -- Laws of rows joined to a plane: what an operation of a body that passes its test leaves to do, and a plane that is cleared first.
-use mathlib.Core.Path.{◌≡◌, refl, sym, ap, ◌∙◌}
-use mathlib.Core.Bool.{true, false}
-use mathlib.Core.List.{List, ◌++◌}
-use Prim.Native.Nat.{ℕ, ◌+◌, ◌-◌, ◌≤◌, ◌<◌}
-use native.Mathlib.Omega.{arith}
-use borrow.Author.Tests.{eq-eqb, ne_eqb}
+use Rattle.std.proofs.Common.{◌≡◌, refl, sym, ap, ◌∙◌, true, false, List, ◌++◌, ℕ, ◌+◌, ◌-◌, ◌≤◌, ◌<◌, arith, eq-eqb, ne_eqb, length, get_or, drop, get_or-drop, drop-drop, drop_at}
 use lib.Bits.{bit_or, or_zero_l}
-use lib.ListN.{length, get_or, drop, get_or-append, get_or-replicate}
-use lib.Seq.{get_or-drop, drop-drop, drop_at}
+use lib.ListN.{get_or-append, get_or-replicate}
 use Rattle.grid.specs.Grid.{upd, boxed}
 use Rattle.grid.specs.Mask.{mask_over, rows_over, Plane}
 use Rattle.grid.proofs.Box.{box_below, box_over}

@@ -1,11 +1,5 @@
 -- Laws of two strips painted side by side: a row of both, below the rows before it.
-use mathlib.Core.Path.{◌≡◌, refl, ap, ◌∙◌}
-use mathlib.Core.Bool.{false}
-use mathlib.Core.List.{List}
-use Prim.Native.Nat.{ℕ, ◌+◌, ◌-◌, ◌*◌, ◌≤◌, ◌<◌}
-use native.Mathlib.Omega.{arith}
-use lib.ListN.{length, get_or, take, drop, length-take, length-drop}
-use lib.Seq.{get_or-take, get_or-drop}
+use Rattle.std.proofs.Common.{◌≡◌, refl, ap, ◌∙◌, false, List, ℕ, ◌+◌, ◌-◌, ◌*◌, ◌≤◌, ◌<◌, arith, length, get_or, take, drop, length-take, length-drop, get_or-take, get_or-drop}
 use Rattle.grid.specs.Grid.{upd, boxed, Inside}
 use Rattle.grid.specs.Strip.{strip_over}
 use Rattle.grid.proofs.Box.{box_beside, box_below}

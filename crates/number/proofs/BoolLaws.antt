@@ -1,6 +1,6 @@
 -- Laws of two tests joined by `&&` or `||`. Those where one of the two is a literal are in mathlib.Core.Bool: `and-false`, `or-true`.
-use mathlib.Core.Path.{◌≡◌, refl}
-use mathlib.Core.Bool.{Bool, true, false, ◌&&◌, ◌||◌, false≢true, true≢false}
+use Rattle.std.proofs.Common.{◌≡◌, refl, Bool, true, false, ◌&&◌, ◌||◌, true≢false}
+use mathlib.Core.Bool.{false≢true}
 
 pub both : (a b : Bool) → (a && b) ≡ true → (a ≡ true) × (b ≡ true)
 both true b e = (refl, e)

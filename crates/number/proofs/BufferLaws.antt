@@ -1,11 +1,7 @@
 -- Laws of runs of bytes that a loop stores in a buffer, one byte a turn.
-use mathlib.Core.Path.{◌≡◌, refl, sym, ap, ◌∙◌}
-use mathlib.Core.List.{List, [], ◌∷◌, ◌++◌, append_assoc}
-use Prim.Native.Nat.{ℕ, zero, suc, ◌+◌, ◌≤◌, ◌<◌}
-use native.Mathlib.Numerals.{add-one}
-use native.Mathlib.Omega.{arith}
-use lib.ListN.{length, get_or, take, drop, set, replicate, replicate-append-replicate, length-drop, take-append-drop}
-use lib.Seq.{take-suc, take-suc-set, take-take, take-append-add, length-take-le, drop-drop, drop-set-lt, get_or-drop}
+use Rattle.std.proofs.Common.{◌≡◌, refl, sym, ap, ◌∙◌, List, [], ◌∷◌, ◌++◌, append_assoc, ℕ, zero, suc, ◌+◌, ◌≤◌, ◌<◌, add-one, arith, length, get_or, take, drop, set, replicate, length-drop, take-append-drop, take-suc, take-suc-set, take-take, length-take-le, drop-drop, drop-set-lt, get_or-drop}
+use lib.ListN.{replicate-append-replicate}
+use lib.Seq.{take-append-add}
 use Rattle.number.specs.Buffer.{over}
 
 -- one byte more after a run p

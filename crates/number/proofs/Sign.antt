@@ -1,15 +1,7 @@
 -- A signed number split into how far it stands past 0 and how far before it.
-use mathlib.Core.Path.{◌≡◌, refl}
-use mathlib.Core.Bool.{true, false, true≢false}
-use Prim.Native.Nat.{zero, suc, ◌-◌, ◌<◌}
-use native.Mathlib.Nat.{zero-add}
-use native.Mathlib.Omega.{arith}
-use borrow.Author.Tests.{ltb-true, lt-ltb}
-use lib.Dec.{T}
+use Rattle.std.proofs.Common.{◌≡◌, refl, true, false, true≢false, zero, suc, ◌<◌, zero-add, arith, ltb-true, lt-ltb, T, w32, w64, SFits}
 use lib.IntN.{ℤ, pos, negsuc, nat_abs, ◌-ℤ◌}
 use lib.Signed.{lt_z, non_neg}
-use mir.Syntax.{w32, w64}
-use mir.Val.{SFits}
 use Rattle.number.specs.Number.{ahead, behind}
 
 pub up : (z : ℤ) → lt_z z (pos 0) ≡ false → T (non_neg z) × (nat_abs z ≡ ahead z) × (0 ≡ behind z)

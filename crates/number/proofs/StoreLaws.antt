@@ -1,13 +1,8 @@
 -- Laws of `sets l i vs`, the list l with vs stored from i on: runs of stores, and each byte afterwards.
-use mathlib.Core.Path.{◌≡◌, refl, sym, ap, ◌∙◌}
-use mathlib.Core.List.{List, [], ◌∷◌, ◌++◌, append_assoc}
+use Rattle.std.proofs.Common.{◌≡◌, refl, sym, ap, ◌∙◌, List, [], ◌∷◌, ◌++◌, append_assoc, ℕ, zero, suc, ◌+◌, ◌≤◌, ◌<◌, le_of_suc-le-suc, not-suc-le-zero, arith, length, get_or, take, drop, set, length-set, get_or-set_same, get_or-set_other}
 use mathlib.Core.Logic.{by_cases}
-use Prim.Native.Nat.{ℕ, zero, suc, ◌+◌, ◌≤◌, ◌<◌}
-use native.Mathlib.Nat.{le_of_suc-le-suc, not-suc-le-zero}
 use native.Mathlib.Decide.{ℕ_discrete}
-use native.Mathlib.Omega.{arith}
-use lib.ListN.{length, get_or, take, drop, set, length-set}
-use lib.Seq.{sets, sets-eq, get_or-set_same, get_or-set_other}
+use lib.Seq.{sets, sets-eq}
 
 -- two stores, one behind the other, are a run of stores; and so are two runs
 pub stores_two : (l : List ℕ) (n a b : ℕ) → set (set l n a) (n + 1) b ≡ sets l n (a ∷ b ∷ [])

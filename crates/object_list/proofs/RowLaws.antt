@@ -1,15 +1,9 @@
 -- Laws of the rows: how many bytes they take, and how they are stored. Assumes nothing.
-use Prim.Native.Nat.{ℕ, zero, suc, ◌+◌, ◌*◌, ◌/◌, ◌^◌, ◌≤◌, ◌<◌}
-use mathlib.Core.Path.{◌≡◌, refl, sym, ap, ap₂, ◌∙◌}
-use mathlib.Core.Bool.{cond}
-use mathlib.Core.List.{List, [], ◌∷◌, ◌++◌, append_assoc}
+use Rattle.std.proofs.Common.{ℕ, zero, suc, ◌+◌, ◌*◌, ◌/◌, ◌^◌, ◌≤◌, ◌<◌, ◌≡◌, refl, sym, ap, ap₂, ◌∙◌, cond, List, [], ◌∷◌, ◌++◌, append_assoc, add-one, arith, length, get_or, take, drop, replicate, length-append, take-append-drop, pow_mono, take_all, get_or-append-add}
 use mathlib.Core.Logic.{by_cases}
 use native.Mathlib.Decide.{ℕ_discrete}
-use native.Mathlib.Numerals.{add-one}
-use native.Mathlib.Omega.{arith}
-use lib.ListN.{length, get_or, take, drop, replicate, get_or-replicate, length-append, take-append-drop, get_or-append}
-use lib.Pow.{pow_mono}
-use lib.Seq.{sets, sets-eq, take_all, get_or-append-add}
+use lib.ListN.{get_or-replicate, get_or-append}
+use lib.Seq.{sets, sets-eq}
 use Rattle.number.specs.Number.{le16_bytes, le32_bytes}
 use Rattle.number.specs.Buffer.{over}
 use Rattle.number.proofs.StoreLaws.{sets-append, sets_is}

@@ -1,12 +1,6 @@
 -- Laws of names: the first NUL, and where a name lies.
-use mathlib.Core.Path.{◌≡◌, refl, subst⁻¹}
-use mathlib.Core.List.{List}
-use mathlib.Core.Bool.{Bool, true, false, cond}
-use Prim.Native.Nat.{ℕ, zero, suc, ◌+◌, ◌-◌, ◌*◌, ◌≤◌, ◌<◌}
-use native.Mathlib.Omega.{arith}
-use lib.Dec.{eqb}
-use lib.ListN.{get_or, length, take, drop}
-use borrow.Author.Tests.{ne_eqb, eq-eqb}
+use Rattle.std.proofs.Common.{◌≡◌, refl, List, Bool, true, false, cond, ℕ, zero, suc, ◌+◌, ◌-◌, ◌*◌, ◌≤◌, ◌<◌, arith, eqb, get_or, length, take, drop, ne_eqb, eq-eqb}
+use mathlib.Core.Path.{subst⁻¹}
 use Rattle.block.specs.Tag.{tag-OBNA}
 use Rattle.block.specs.Tree.{need_tag}
 use Rattle.objects.specs.Name.{nul_from, before_nul, name_in, part_at, part_of, place_word}

@@ -1,11 +1,6 @@
 -- Laws of objects: where their blocks and headers lie.
-use mathlib.Core.Path.{◌≡◌, refl, subst⁻¹}
-use mathlib.Core.List.{List}
-use mathlib.Core.Bool.{Bool, true, false, cond}
-use Prim.Native.Nat.{ℕ, ◌+◌, ◌-◌, ◌≤◌}
-use native.Mathlib.Omega.{arith}
-use lib.ListN.{length}
-use lib.Dec.{eqb}
+use Rattle.std.proofs.Common.{◌≡◌, refl, List, Bool, true, false, cond, ℕ, ◌+◌, ◌-◌, ◌≤◌, arith, length, eqb}
+use mathlib.Core.Path.{subst⁻¹}
 use Rattle.block.specs.Tag.{tag-OBCD, tag-CDHD}
 use Rattle.block.specs.Tree.{Inside, nth_tag, need_tag}
 use Rattle.block.specs.declared.Found.{Found}

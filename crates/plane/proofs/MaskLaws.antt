@@ -1,15 +1,6 @@
 -- Laws of the rows of a mask strip: an operation, what it gives, and going on from one place to the next.
-use mathlib.Core.Path.{◌≡◌, refl, sym, ap, ap₂, ◌∙◌, subst}
-use mathlib.Core.Bool.{Bool, cond}
-use mathlib.Core.List.{List, [], ◌∷◌, ◌++◌, append-nil}
-use Prim.Native.Nat.{ℕ, zero, suc, ◌+◌, ◌-◌, ◌≤◌, ◌<◌}
-use native.Mathlib.Nat.{not-suc-le-zero, sub-zero}
-use native.Mathlib.Numerals.{add-one}
-use native.Mathlib.Omega.{arith}
-use borrow.Author.Tests.{lt-ltb, le-ltb}
-use lib.ListN.{length, take, drop, replicate, get_or, length-drop, drop_of_length-le}
-use lib.Dec.{ltb}
-use lib.Seq.{drop-cons, drop-drop}
+use Rattle.std.proofs.Common.{◌≡◌, refl, sym, ap, ap₂, ◌∙◌, subst, Bool, cond, List, [], ◌∷◌, ◌++◌, append-nil, ℕ, zero, suc, ◌+◌, ◌-◌, ◌≤◌, ◌<◌, not-suc-le-zero, add-one, arith, lt-ltb, le-ltb, length, take, drop, replicate, get_or, length-drop, drop_of_length-le, ltb, drop-cons, drop-drop}
+use native.Mathlib.Nat.{sub-zero}
 use Rattle.strip.specs.declared.Made.{Made}
 use Rattle.strip.specs.declared.Made.TheVariants.{All}
 use Rattle.strip.specs.Strip.{Strip, refused, values, made_of, onto, prepend, Filled}
@@ -159,7 +150,8 @@ module _ (t u xs : List ℕ) (k n : ℕ) (gives : rows_of t k (literals 0) ≡ p
   pub tested_on : (m : Made) → m ≡ made_of (rows_of t k (literals 0)) → m ≡ made_of (rows_of u (k - n) (literals 0))
   tested_on m so_far = so_far ∙ ap made_of gives ∙ made-prepend xs (rows_of u (k - n) (literals 0))
 
-pub rows_all : (t : List ℕ) (p : Pending) (i h : ℕ) (out d : List ℕ) (x : Strip) → i ≡ h → x ≡ prepend (take i out) (rows_of t (h - i) p) → drop i out ≡ drop i d
+pub rows_all : (t : List ℕ) (p : Pending) (i h : ℕ) (out d : List ℕ) (x : Strip) → i ≡ h → x ≡ prepend (take i out) (rows_of t (h - i) p)
+    → drop i out ≡ drop i d
     → Filled h x d out All
 rows_all t p i h out d x e f g = (
   f

@@ -1,14 +1,7 @@
 -- A call, as the code makes it, is crate scene's `called` at the decoded room.
-use mathlib.Core.Path.{◌≡◌, refl, sym, ap, ◌∙◌}
-use mathlib.Core.Bool.{Bool, true, false, cond, not}
-use mathlib.Core.List.{List}
+use Rattle.std.proofs.Common.{◌≡◌, refl, sym, ap, ◌∙◌, Bool, true, false, cond, not, List, ℕ, ◌≤◌, ◌<◌, arith, eqb-true, eq-eqb, ne_eqb, lt-ltb, eqb, ltb, length, get_or}
 use mathlib.Core.Logic.{by_cases}
-use Prim.Native.Nat.{ℕ, ◌≤◌, ◌<◌}
-use native.Mathlib.Omega.{arith}
 use native.Mathlib.Decide.{ℕ_discrete}
-use borrow.Author.Tests.{eqb-true, eq-eqb, ne_eqb, lt-ltb}
-use lib.Dec.{eqb, ltb}
-use lib.ListN.{length, get_or}
 use Rattle.grid.specs.Grid.{upd}
 use Rattle.grid.proofs.Upd.{get_or-upd}
 use Rattle.room.specs.Test.{strips}

@@ -1,13 +1,8 @@
 -- Demand 3 of the calls themselves: their contracts, on bytes that hold a right session with surfaces painted accordingly, are crate scene's
 -- calls at the decoded room, so that every list of draws, hides and take-backs, refused ones included, agrees with document 01's step list, byte
 -- for byte. What an accepted load leaves are such bytes.
-use mathlib.Core.Path.{◌≡◌, refl, sym, ap, subst, ◌∙◌}
-use mathlib.Core.Bool.{Bool, true, false, cond}
-use mathlib.Core.List.{List, [], ◌∷◌}
-use Prim.Native.Nat.{ℕ, ◌+◌, ◌≤◌}
-use native.Mathlib.Omega.{arith}
-use lib.Dec.{eqb}
-use lib.ListN.{length, drop, replicate, length-set, length-append, length-drop, length-replicate}
+use Rattle.std.proofs.Common.{◌≡◌, refl, sym, ap, subst, ◌∙◌, Bool, true, false, cond, List, [], ◌∷◌, ℕ, ◌+◌, ◌≤◌, arith, eqb, length, drop, replicate, length-set, length-append, length-drop}
+use lib.ListN.{length-replicate}
 use Rattle.number.specs.Buffer.{over}
 use Rattle.room.specs.Head.{Sound}
 use Rattle.room.specs.Test.{room_test, with_surfaces}

@@ -1,12 +1,6 @@
 -- The entries of a list that an accepted call leaves can be painted.
-use mathlib.Core.Path.{◌≡◌, refl, sym, subst}
-use mathlib.Core.Bool.{Bool, true, false, cond, not}
-use mathlib.Core.List.{List, [], ◌∷◌, ◌++◌}
-use Prim.Native.Nat.{ℕ, zero, suc, ◌*◌, ◌-◌, ◌≤◌, ◌<◌}
-use native.Mathlib.Omega.{arith}
-use borrow.Author.Tests.{eqb-true, eqb-false}
-use lib.Dec.{eqb, leb}
-use lib.ListN.{length, get_or}
+use Rattle.std.proofs.Common.{◌≡◌, refl, sym, subst, Bool, true, false, cond, not, List, [], ◌∷◌, ◌++◌, ℕ, zero, suc, ◌*◌, ◌-◌, ◌≤◌, ◌<◌, arith, eqb-true, eqb, leb, length, get_or}
+use borrow.Author.Tests.{eqb-false}
 use Rattle.room.specs.declared.Room as room
 use Rattle.scene.specs.Painting.{Room}
 use Rattle.scene.specs.Steps.{Scene, allowed, applied, adds, removes, without, entry_of, refusal, replay, replays, most_steps}
@@ -107,6 +101,7 @@ module _ (s : List ℕ) (r : room.Room) where
   listed flat n es long same fine =
       record {
         long = long;
-        each = λ i lt. paintable (entry_at flat i) (all_at (Fine (decoded s r)) flat n (subst (λ (x : List Entry). All (Fine (decoded s r)) x) (sym same) fine) i
+        each = λ i lt. paintable (entry_at flat i)
+            (all_at (Fine (decoded s r)) flat n (subst (λ (x : List Entry). All (Fine (decoded s r)) x) (sym same) fine) i
             lt);
       }

@@ -6,10 +6,7 @@
 --
 -- The background has a 7 and a 255, which are painted as they are. TRNS stands behind all other blocks; its second byte and the second, empty TRNS count
 -- for nothing. Each lent buffer has a byte more than the calls need, 0xEE, which stays.
-use mathlib.Core.Path.{◌≡◌, refl}
-use mathlib.Core.List.{List, [], ◌∷◌, ◌++◌}
-use Prim.Native.Nat.{ℕ, ◌-◌}
-use lib.ListN.{length, replicate}
+use Rattle.std.proofs.Common.{◌≡◌, refl, List, [], ◌∷◌, ◌++◌, ℕ, ◌-◌, length, replicate}
 use Rattle.number.specs.Buffer.{over}
 use Rattle.bits.specs.Bits.{low_bits, bits_of}
 use Rattle.grid.specs.Grid.{upd, within, boxed}
@@ -206,17 +203,18 @@ pub record Played : Type 0 where
   pub third_255 : Gives room255 255 first255 (draw 3) third255
 
 pub index_read : Read
-unfolding low_bits bits_of decode five_from kind_of placed raw_of coded_of strip_of rows_of container block_end walk run block_ok well_formed tagged payload each_has
-    offset_at offset_right offsets_right table_right body_end body_of strip_at rows_at strip_test leftmost block_test headed_in background_in needed_in objects_right trns_in
-    sizes_right room_of sized head_of plane_test smap_and_planes_test pictures_test short after_head room_test upd within boxed pixel_at mask_at background mask loaded_pixels
-    loaded_masks emptied over record_bytes
+unfolding low_bits bits_of decode five_from kind_of placed raw_of coded_of strip_of rows_of container block_end walk run block_ok well_formed tagged payload
+    each_has offset_at offset_right offsets_right table_right body_end body_of strip_at rows_at strip_test leftmost block_test headed_in background_in
+    needed_in objects_right trns_in sizes_right room_of sized head_of plane_test smap_and_planes_test pictures_test short after_head room_test upd within
+    boxed pixel_at mask_at background mask loaded_pixels loaded_masks emptied over record_bytes
 index_read = record { accepted = (refl, refl); loads = (refl, refl); records = (refl, refl); refused = refl }
 
 pub index-played : Played
-unfolding low_bits bits_of upd decode five_from kind_of placed raw_of coded_of strip_of rows_of block_end walk run tagged payload offset_at offset_right offsets_right
-    table_right body_end body_of strip_at rows_at pixel_at mask_at strip_test leftmost block_test plane_test smap_and_planes_test object_block background mask object_id has_id first_of
-    image_block image_count home_x home_y image_width image_height state_block drawable image_test image_fault image_strip image_colour image_clear image_bits every opaque
-    covers reaches over_pixel over_mask layered pixel_layout mask_layout fresh_byte new_byte rebuilt_bytes some only without spot_of entry_of same_box clash removes adds
+unfolding low_bits bits_of upd decode five_from kind_of placed raw_of coded_of strip_of rows_of block_end walk run tagged payload offset_at offset_right
+    offsets_right table_right body_end body_of strip_at rows_at pixel_at mask_at strip_test leftmost block_test plane_test smap_and_planes_test object_block
+    background mask object_id has_id first_of image_block image_count home_x home_y image_width image_height state_block drawable image_test image_fault
+    image_strip image_colour image_clear image_bits every opaque covers reaches over_pixel over_mask layered pixel_layout mask_layout fresh_byte new_byte
+    rebuilt_bytes some only without spot_of entry_of same_box clash removes adds
     moves applied touches aligned steps.sized inside allowed refusal bare replay replays same_entry same_list right_for scene_of made unmade tried called
     marks_from all_placed put_marks session_of decoded
 index-played =

@@ -1,15 +1,9 @@
 -- What a load leaves is the room painted afresh with nothing shown, and an empty session.
-use mathlib.Core.Path.{◌≡◌, refl, sym, ap, ap₂, ◌∙◌}
-use mathlib.Core.Bool.{Bool, true, cond, and-true}
-use mathlib.Core.List.{List, []}
+use Rattle.std.proofs.Common.{◌≡◌, refl, sym, ap, ap₂, ◌∙◌, Bool, true, cond, List, [], ℕ, ◌+◌, ◌*◌, ◌/◌, ◌%◌, ◌≤◌, ◌<◌, div-lt_iff_lt-mul, mod-lt, arith, lt-ltb, le-ltb, ltb, get_or}
+use mathlib.Core.Bool.{and-true}
 use mathlib.Core.Logic.{by_cases}
-use Prim.Native.Nat.{ℕ, ◌+◌, ◌*◌, ◌/◌, ◌%◌, ◌≤◌, ◌<◌}
-use native.Mathlib.Nat.{div-lt_iff_lt-mul, mod-lt, sub-zero}
+use native.Mathlib.Nat.{sub-zero}
 use native.Mathlib.Decide.{dec_lt}
-use native.Mathlib.Omega.{arith}
-use borrow.Author.Tests.{lt-ltb, le-ltb}
-use lib.Dec.{ltb}
-use lib.ListN.{get_or}
 use Rattle.number.specs.Buffer.{over}
 use Rattle.grid.specs.Grid.{upd, boxed}
 use Rattle.grid.proofs.Upd.{upd_ext}

@@ -1,11 +1,5 @@
 -- The answer of the point question, from the session's list as the tables settle it.
-use Prim.Native.Nat.{ℕ, zero, suc, ◌≤◌, ◌<◌}
-use mathlib.Core.Path.{◌≡◌, refl, sym, ap, ◌∙◌}
-use mathlib.Core.Bool.{true, false}
-use mathlib.Core.List.{List}
-use borrow.Author.Tests.{lt-ltb, le-ltb, eq-eqb, ne_eqb}
-use lib.Dec.{eqb}
-use lib.ListN.{get_or}
+use Rattle.std.proofs.Common.{ℕ, zero, suc, ◌≤◌, ◌<◌, ◌≡◌, refl, sym, ap, ◌∙◌, true, false, List, lt-ltb, le-ltb, eq-eqb, ne_eqb, eqb, get_or}
 use Rattle.room.specs.declared.Room as room
 use Rattle.scene.specs.Painting.{Room}
 use Rattle.scene.specs.Steps.{Scene}

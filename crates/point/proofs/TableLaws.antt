@@ -1,12 +1,7 @@
 -- The code's tables tell the room's objects and the shown states: the hit test by the tables is the definition's, and so is the object.
-use Prim.Native.Nat.{ℕ, zero, suc, ◌+◌, ◌*◌, ◌-◌, ◌≤◌, ◌<◌}
-use mathlib.Core.Path.{◌≡◌, refl, sym, ap, ◌∙◌}
-use mathlib.Core.Bool.{Bool, true, false, cond, not, ◌&&◌, false≢true}
-use mathlib.Core.List.{List, []}
-use native.Mathlib.Omega.{arith}
-use borrow.Author.Tests.{eq-eqb, ne_eqb, leb-true, not-true, not-false}
-use lib.Dec.{eqb, leb}
-use lib.ListN.{get_or}
+use Rattle.std.proofs.Common.{ℕ, zero, suc, ◌+◌, ◌*◌, ◌-◌, ◌≤◌, ◌<◌, ◌≡◌, refl, sym, ap, ◌∙◌, Bool, true, false, cond, not, ◌&&◌, List, [], arith, eq-eqb, ne_eqb, leb-true, eqb, leb, get_or}
+use mathlib.Core.Bool.{false≢true}
+use borrow.Author.Tests.{not-true, not-false}
 use Rattle.objects.specs.Object.{object_block}
 use Rattle.image.specs.Gathered.{Filled}
 use Rattle.image.specs.Image.{object_count}

@@ -1,11 +1,6 @@
--- What the laws of a replay ask of its ground, the scene that it starts from, and that a stored session's ground is so. Which scene that
+-- What the laws of a replay ask of its base, the scene that it starts from, and that a stored session's base is so. Which scene that
 -- is, is looked at here and in TablesLaws' `base_same` alone. Assumes nothing.
-use Prim.Native.Nat.{ℕ, ◌+◌, ◌≤◌}
-use mathlib.Core.Path.{◌≡◌, refl}
-use mathlib.Core.Bool.{true}
-use mathlib.Core.List.{List}
-use lib.ListN.{length}
-use native.Mathlib.Omega.{arith}
+use Rattle.std.proofs.Common.{ℕ, ◌+◌, ◌≤◌, ◌≡◌, refl, true, List, length, arith}
 use Rattle.scene.specs.declared.Call.{Call}
 use Rattle.scene.specs.declared.Entry.{Entry}
 use Rattle.scene.specs.declared.Step.{Step}
@@ -40,13 +35,13 @@ pub bare_base : (room : Room) → Ground room (bare room)
 unfolding bare
 bare_base room = record { stand = tt; fine = tt; short = omega arith }
 
--- ---- the ground of a session that bytes hold
+-- ---- the base of a session that bytes hold
 
 pub session_base : (room : Room) (l : List ℕ) → Ground room (base_of room l)
 unfolding session_of
 session_base room l = bare_base room
 
--- a call changes no ground
+-- a call changes no base
 pub base_kept : (room : Room) (l : List ℕ) (c : Call) (es : List Entry) → base_of room (put_call l c es) ≡ base_of room l
 unfolding session_of
 base_kept room l c es = refl

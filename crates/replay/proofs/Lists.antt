@@ -1,12 +1,5 @@
 -- Laws of shown lists: tests and what stays over one more entry. Assumes nothing.
-use Prim.Native.Nat.{ℕ, zero, suc, ◌+◌, ◌<◌, ◌≤◌}
-use mathlib.Core.Path.{◌≡◌, refl, sym, ap, ◌∙◌}
-use mathlib.Core.Bool.{Bool, true, false, cond, ◌||◌}
-use mathlib.Core.List.{List, [], ◌∷◌, ◌++◌}
-use lib.ListN.{get_or, set, take, length}
-use lib.Seq.{take-suc, take-suc-set}
-use native.Mathlib.Numerals.{add-one}
-use native.Mathlib.Omega.{arith}
+use Rattle.std.proofs.Common.{ℕ, zero, suc, ◌+◌, ◌<◌, ◌≤◌, ◌≡◌, refl, sym, ap, ◌∙◌, Bool, true, false, cond, ◌||◌, List, [], ◌∷◌, ◌++◌, get_or, set, take, length, take-suc, take-suc-set, add-one, arith}
 use Rattle.scene.specs.declared.Entry.{Entry}
 use Rattle.scene.specs.Steps.{some, without}
 use Rattle.scene.proofs.Lists.{some-append, without-append}

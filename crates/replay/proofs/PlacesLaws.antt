@@ -1,13 +1,6 @@
 -- Laws of the table of last places: its rows, one place stored, the homes, and that an accepted draw's place can be stored. Assumes nothing.
-use Prim.Native.Nat.{ℕ, ◌+◌, ◌*◌, ◌<◌, ◌≤◌}
-use mathlib.Core.Path.{◌≡◌, refl, sym, ap, ◌∙◌}
-use mathlib.Core.Bool.{Bool, true, false, cond}
-use mathlib.Core.List.{List}
-use lib.Dec.{eqb, leb}
-use lib.ListN.{get_or, set, length, length-set}
-use lib.Seq.{get_or-set_same, get_or-set_other}
-use native.Mathlib.Omega.{arith}
-use borrow.Author.Tests.{le-leb, lt-leb, leb-true, leb-false, eqb-true, eqb-false, not-true}
+use Rattle.std.proofs.Common.{ℕ, ◌+◌, ◌*◌, ◌<◌, ◌≤◌, ◌≡◌, refl, sym, ap, ◌∙◌, Bool, true, false, cond, List, eqb, leb, get_or, set, length, length-set, get_or-set_same, get_or-set_other, arith, le-leb, leb-true, leb-false, eqb-true}
+use borrow.Author.Tests.{lt-leb, eqb-false, not-true}
 use Rattle.scene.specs.declared.Entry.{Entry}
 use Rattle.scene.specs.declared.Place.{Place}
 use Rattle.scene.specs.declared.Place.TheVariants.{Last, Strip}

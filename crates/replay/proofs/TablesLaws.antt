@@ -1,13 +1,7 @@
 -- Laws of the tables, and the bridge: a room that the tables tell has the steps, the replay and the refusals of the room made of them.
 -- Assumes nothing.
-use Prim.Native.Nat.{ℕ, ◌+◌, ◌*◌, ◌<◌, ◌≤◌}
-use mathlib.Core.Path.{◌≡◌, refl, ap, ap₂, ◌∙◌}
-use mathlib.Core.Bool.{Bool, true, false, cond, not, ◌&&◌, ◌||◌}
-use mathlib.Core.List.{List, [], ◌∷◌, ◌++◌}
-use lib.Dec.{eqb, leb}
-use lib.ListN.{get_or, length}
-use native.Mathlib.Omega.{arith}
-use borrow.Author.Tests.{eq-eqb, ne_eqb, le-leb, lt-leb, leb-true}
+use Rattle.std.proofs.Common.{ℕ, ◌+◌, ◌*◌, ◌<◌, ◌≤◌, ◌≡◌, refl, ap, ap₂, ◌∙◌, Bool, true, false, cond, not, ◌&&◌, ◌||◌, List, [], ◌∷◌, ◌++◌, eqb, leb, get_or, length, arith, eq-eqb, ne_eqb, le-leb, leb-true}
+use borrow.Author.Tests.{lt-leb}
 use Rattle.number.proofs.BoolLaws.{or_left, or_right}
 use Rattle.scene.specs.declared.Entry.{Entry}
 use Rattle.scene.specs.declared.Step.{Step}
@@ -198,7 +192,7 @@ module _ (room : Room) (objects verdicts : List ℕ) (size : Size) where
           (ap (λ (sc : Scene). refusal room (length h) sc st) (replay_from h)
           ∙ refusal-same (length h) (replay T g' h) st (λ o s n. k o s (or_left (draws st o s) (names h o s) n))))
 
-    -- a stored session's ground is the same in both
+    -- a stored session's base is the same in both
     pub base_same : (l : List ℕ) → base_of room l ≡ base_of T l
     unfolding session_of
     base_same l = bare-same

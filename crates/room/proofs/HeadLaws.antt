@@ -1,12 +1,6 @@
 -- Laws of a room's head: where the needed blocks lie, and what holds of a room without the refusals 1 to 3.
-use mathlib.Core.Path.{◌≡◌, refl, subst⁻¹}
-use mathlib.Core.List.{List}
-use mathlib.Core.Bool.{Bool, true, false, ◌&&◌, cond}
-use Prim.Native.Nat.{ℕ, ◌+◌, ◌%◌, ◌≤◌}
-use native.Mathlib.Omega.{arith}
-use borrow.Author.Tests.{leb-true, eqb-true}
-use lib.ListN.{length}
-use lib.Dec.{leb, eqb}
+use Rattle.std.proofs.Common.{◌≡◌, refl, List, Bool, true, false, ◌&&◌, cond, ℕ, ◌+◌, ◌%◌, ◌≤◌, arith, leb-true, eqb-true, length, leb, eqb}
+use mathlib.Core.Path.{subst⁻¹}
 use Rattle.number.proofs.BoolLaws.{and_left, and_right}
 use Rattle.block.specs.Tag.{tag-RMHD, tag-RMIM, tag-RMIH, tag-IM00, tag-SMAP}
 use Rattle.block.specs.Tree.{well_formed, need_tag, find_tag}

@@ -1,9 +1,5 @@
 -- Laws of a picture's test: where it passes, its SMAP does, and each of its planes.
-use mathlib.Core.Path.{◌≡◌}
-use mathlib.Core.List.{List}
-use mathlib.Core.Bool.{true, false}
-use Prim.Native.Nat.{ℕ, ◌≤◌}
-use native.Mathlib.Omega.{arith}
+use Rattle.std.proofs.Common.{◌≡◌, List, true, false, ℕ, ◌≤◌, arith}
 use Rattle.block.specs.declared.Found.TheVariants.{At}
 use Rattle.table.specs.Test.{leftmost, block_test}
 use Rattle.table.specs.declared.Test.TheVariants.{Passed}

@@ -1,10 +1,6 @@
 -- Laws of the whole test: what holds of a room that passes it.
-use mathlib.Core.Path.{◌≡◌, refl, subst⁻¹}
-use mathlib.Core.List.{List}
-use mathlib.Core.Bool.{Bool, true, false, cond, ◌||◌, true≢false}
-use Prim.Native.Nat.{ℕ, ◌*◌, ◌≤◌}
-use borrow.Author.Tests.{ltb-false}
-use lib.Dec.{ltb}
+use Rattle.std.proofs.Common.{◌≡◌, refl, List, Bool, true, false, cond, ◌||◌, true≢false, ℕ, ◌*◌, ◌≤◌, ltb-false, ltb}
+use mathlib.Core.Path.{subst⁻¹}
 use Rattle.table.specs.declared.Test.{Test}
 use Rattle.table.specs.declared.Test.TheVariants as test
 use Rattle.room.specs.Head.{head_of, Sound}

@@ -1,11 +1,7 @@
 -- What an allowed place is, in numbers (document 01, "Sessions", refusal 12): callers cite `allowed-means` and never unfold `allowed`.
 -- Assumes nothing.
-use Prim.Native.Nat.{ℕ, ◌+◌, ◌*◌, ◌%◌, ◌<◌, ◌≤◌}
-use mathlib.Core.Path.{◌≡◌, sym, ap, ◌∙◌}
-use mathlib.Core.Bool.{Bool, true, ◌&&◌, and_assoc}
-use mathlib.Core.Logic.{◌↔◌}
-use borrow.Author.Tests.{eq-eqb, eqb-true, le-leb, leb-true, lt-ltb, ltb-true}
-use lib.Dec.{eqb, leb, ltb}
+use Rattle.std.proofs.Common.{ℕ, ◌+◌, ◌*◌, ◌%◌, ◌<◌, ◌≤◌, ◌≡◌, sym, ap, ◌∙◌, Bool, true, ◌&&◌, ◌↔◌, eq-eqb, eqb-true, le-leb, leb-true, lt-ltb, ltb-true, eqb, leb, ltb}
+use mathlib.Core.Bool.{and_assoc}
 use Rattle.number.proofs.BoolLaws.{both}
 use Rattle.scene.specs.declared.Entry.{Entry}
 use Rattle.scene.specs.Painting.{Room}

@@ -1,9 +1,5 @@
 -- The bridge to the tables: a room that they tell has the sessions and the plans of the room made of them. Assumes nothing.
-use Prim.Native.Nat.{ℕ}
-use mathlib.Core.Path.{◌≡◌, refl, ap, ap₂, ◌∙◌}
-use mathlib.Core.Bool.{true, cond, ◌&&◌}
-use mathlib.Core.List.{List, [], ◌∷◌}
-use lib.ListN.{get_or, length}
+use Rattle.std.proofs.Common.{ℕ, ◌≡◌, refl, ap, ap₂, ◌∙◌, true, cond, ◌&&◌, List, [], ◌∷◌, get_or, length}
 use Rattle.scene.specs.declared.Call.{Call}
 use Rattle.scene.specs.declared.Call.TheVariants.{Make, TakeBack}
 use Rattle.scene.specs.declared.Step.{Step}

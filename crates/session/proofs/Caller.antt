@@ -1,13 +1,6 @@
 -- What a caller cites: a call on the session's bytes is scene's `called` on the session that they hold, for any room that the tables tell.
 -- Assumes nothing.
-use Prim.Native.Nat.{ℕ, suc, ◌+◌, ◌*◌, ◌<◌, ◌≤◌}
-use mathlib.Core.Path.{◌≡◌, refl, sym, ap, subst, ◌∙◌}
-use mathlib.Core.Bool.{Bool, true, false, cond}
-use mathlib.Core.List.{List, [], ◌∷◌}
-use lib.Dec.{eqb, leb}
-use lib.ListN.{get_or, length, length-append}
-use native.Mathlib.Omega.{arith}
-use borrow.Author.Tests.{eqb-true, eq-eqb, leb-false}
+use Rattle.std.proofs.Common.{ℕ, suc, ◌+◌, ◌*◌, ◌<◌, ◌≤◌, ◌≡◌, refl, sym, ap, subst, ◌∙◌, Bool, true, false, cond, List, [], ◌∷◌, eqb, leb, get_or, length, length-append, arith, eqb-true, eq-eqb, leb-false}
 use Rattle.scene.specs.declared.Call.{Call}
 use Rattle.scene.specs.declared.Call.TheVariants.{Make, TakeBack}
 use Rattle.scene.specs.declared.Entry.{Entry}
@@ -60,7 +53,7 @@ module _ (room : Room) where
         let b = replay-length h in
         omega arith
 
-    -- ---- bytes that keep a ground, a history and the list of its replay hold that session
+    -- ---- bytes that keep a base, a history and the list of its replay hold that session
 
     module _ (G : Ground room g) (m : List ℕ) (h : List Step) where
       abbrev es : List Entry

@@ -1,12 +1,7 @@
 -- Laws of a session's bytes: what was put is read back, and the rest stays. Assumes nothing.
-use Prim.Native.Nat.{ℕ, zero, suc, ◌+◌, ◌*◌, ◌-◌, ◌<◌, ◌≤◌}
-use mathlib.Core.Path.{◌≡◌, refl, sym, ap, ap₂, subst, ◌∙◌}
-use mathlib.Core.Bool.{Bool, true, false, ◌&&◌, and-true, and-false, and_assoc}
-use mathlib.Core.List.{List, [], ◌∷◌, ◌++◌}
-use lib.ListN.{get_or, set, take, drop, length, length-set, replicate}
-use lib.Seq.{get_or-set_same, get_or-set_other, drop-cons, get_or-take, length-take-le, drop-length}
-use native.Mathlib.Omega.{arith}
-use native.Mathlib.Numerals.{add-one}
+use Rattle.std.proofs.Common.{ℕ, zero, suc, ◌+◌, ◌*◌, ◌-◌, ◌<◌, ◌≤◌, ◌≡◌, refl, sym, ap, ap₂, subst, ◌∙◌, Bool, true, false, ◌&&◌, List, [], ◌∷◌, ◌++◌, get_or, set, take, drop, length, length-set, replicate, get_or-set_same, get_or-set_other, drop-cons, get_or-take, length-take-le, arith, add-one}
+use mathlib.Core.Bool.{and-true, and-false, and_assoc}
+use lib.Seq.{drop-length}
 use Rattle.number.proofs.BufferLaws.{over_of}
 use Rattle.scene.specs.declared.Call.TheVariants.{Make, TakeBack}
 use Rattle.scene.specs.declared.Entry.{Entry}
@@ -75,7 +70,8 @@ module _ (l : List ℕ) (at k o s a b : ℕ) where
     step_of-put5 = rw (put5-0, put5-1, put5-2, put5-3, put5-4)
 
 -- a record is what its five bytes say
-pub step_at-same : (l m : List ℕ) (i : ℕ) → ((j : ℕ) → steps_from + step_size * i ≤ j → j < steps_from + step_size * i + step_size → get_or l j 0 ≡ get_or m j 0)
+pub step_at-same : (l m : List ℕ) (i : ℕ)
+    → ((j : ℕ) → steps_from + step_size * i ≤ j → j < steps_from + step_size * i + step_size → get_or l j 0 ≡ get_or m j 0)
     → step_at l i ≡ step_at m i
 step_at-same l m i h =
     rw (
@@ -161,7 +157,8 @@ module _ (l : List ℕ) (es : List Entry) where
 
   shown_step : (i : ℕ) → i < most_steps → step_at (put_shown l es) i ≡ step_at l i
   shown_step i h =
-      step_at-same (put_shown l es) l i (λ j a b. after (put_marks l shown_from 0 es) 1 j (length es) (omega arith) ∙ marks-low shown_from l 0 es j (omega arith))
+      step_at-same (put_shown l es) l i (λ j a b. after (put_marks l shown_from 0 es) 1 j (length es) (omega arith)
+      ∙ marks-low shown_from l 0 es j (omega arith))
 
   module _ (h : shown_from + mark_size * length es ≤ length l) where
     pub shown-count : get_or (put_shown l es) 1 0 ≡ length es
@@ -279,7 +276,8 @@ module _ (list : List Entry) (n : ℕ) (fits : n ≤ length list) where
   -- one more mark is stored; all are
   pub put_more : (l : List ℕ) (from i : ℕ) (d : Entry) → i < n
       → put_marks l from i (drop i es)
-      ≡ put_marks (set (set l (from + mark_size * i) (get_or list i d).object) (from + mark_size * i + 1) (get_or list i d).state) from (i + 1) (drop (i + 1) es)
+      ≡ put_marks (set (set l (from + mark_size * i) (get_or list i d).object) (from + mark_size * i + 1) (get_or list i d).state) from (i + 1)
+      (drop (i + 1) es)
   unfolding put_marks
   put_more l from i d h = rw (next_entry i d h, add-one i)
 

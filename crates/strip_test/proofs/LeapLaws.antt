@@ -1,15 +1,7 @@
 -- Laws of the test's leaps: past the rows of a view, past 32 keeps, past a run, from spot to spot, and on to the careful test.
-use mathlib.Core.Path.{◌≡◌, refl, sym, ap, ap₂, ◌∙◌, subst}
-use mathlib.Core.Bool.{Bool, true, false}
-use mathlib.Core.List.{List, ◌++◌}
-use Prim.Native.Nat.{ℕ, zero, suc, ◌+◌, ◌-◌, ◌*◌, ◌/◌, ◌%◌, ◌^◌, ◌≤◌, ◌<◌}
-use native.Mathlib.Omega.{arith}
+use Rattle.std.proofs.Common.{◌≡◌, refl, sym, ap, ap₂, ◌∙◌, subst, Bool, true, false, List, ◌++◌, ℕ, zero, suc, ◌+◌, ◌-◌, ◌*◌, ◌/◌, ◌%◌, ◌^◌, ◌≤◌, ◌<◌, arith, get_or, set, length, drop, length-drop, drop-drop, get_or-set_same, get_or-set_other, leb-true, leb-false, leb}
 use mathlib.Core.Logic.{by_cases}
 use native.Mathlib.Decide.{ℕ_discrete}
-use lib.ListN.{get_or, set, length, drop, length-drop}
-use lib.Seq.{drop-drop, get_or-set_same, get_or-set_other}
-use borrow.Author.Tests.{leb-true, leb-false}
-use lib.Dec.{leb}
 use Rattle.bits.specs.declared.Cursor.{Cursor}
 use Rattle.bits.specs.Reader.{Starts, Fetches, Hands}
 use Rattle.bits.specs.Bits.{got, pull, low_bits, bits_of, rest, Full, Views}
@@ -17,7 +9,6 @@ use Rattle.bits.proofs.BitLaws.{pull-low, pull_is, pull-drop, low-drop}
 use Rattle.bits.proofs.CursorLaws.{bits-long, drop-bytes}
 use Rattle.strip.specs.declared.State.{State}
 use Rattle.strip.specs.declared.Made.{Made}
-use Rattle.strip.specs.declared.Made.TheVariants as Made
 use Rattle.strip.specs.Strip.{Move, refuse, go, op_of, measured, run_pixels}
 use Rattle.strip.proofs.StripLaws.{measured-fits}
 use Rattle.strip.proofs.OpLaws.{op_run}
@@ -153,7 +144,8 @@ module _ (second : Bool) (w : ℕ) (s t : List ℕ) (le : w ≤ 8) (table : Leap
             ap (λ (k : ℕ). drop k (bits_of s)) (sym to)
             ∙ seen_on s (p + sum % 256) n v (r % 256) l ahead (omega arith)
             ∙ ap₂ (λ (k x : ℕ). low_bits k x ++ l) less on;
-        over = λ k. ap (λ (m : ℕ). outcome second w (m + k) 0 (drop p (bits_of s))) many ∙ both k ∙ ap (λ (q : ℕ). outcome second w k 0 (drop q (bits_of s))) to;
+        over = λ k. ap (λ (m : ℕ). outcome second w (m + k) 0 (drop p (bits_of s))) many ∙ both k
+            ∙ ap (λ (q : ℕ). outcome second w k 0 (drop q (bits_of s))) to;
       }
 
   pub sight_none : (p v : ℕ) → Views s p v → Sighted second w s p 0 v 0

@@ -1,11 +1,5 @@
 -- Laws of the outcome: it is what the decode comes to, and it goes on past an operation as the decode does.
-use mathlib.Core.Path.{◌≡◌, refl, sym, ap, ◌∙◌}
-use mathlib.Core.Bool.{Bool, true, false, cond}
-use mathlib.Core.List.{List, [], ◌∷◌}
-use Prim.Native.Nat.{ℕ, zero, suc, ◌*◌, ◌≤◌}
-use lib.Dec.{leb, eqb}
-use lib.ListN.{get_or, length, drop}
-use native.Mathlib.Omega.{arith}
+use Rattle.std.proofs.Common.{◌≡◌, refl, sym, ap, ◌∙◌, Bool, true, false, cond, List, [], ◌∷◌, ℕ, zero, suc, ◌*◌, ◌≤◌, leb, eqb, get_or, length, drop, arith}
 use Rattle.bits.specs.Bits.{Pull, short, got, pull, bits_of}
 use Rattle.strip.specs.declared.Made.{Made}
 use Rattle.strip.specs.declared.Made.TheVariants.{All, Refused}

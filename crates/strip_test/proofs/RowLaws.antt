@@ -1,14 +1,7 @@
 -- A table of rows is right: each of its 256 rows is computed.
-use mathlib.Core.Path.{◌≡◌, sym, subst}
-use mathlib.Core.Bool.{Bool, true, ◌&&◌}
-use mathlib.Core.List.{List}
+use Rattle.std.proofs.Common.{◌≡◌, sym, subst, Bool, true, ◌&&◌, List, ℕ, zero, suc, ◌/◌, ◌%◌, ◌<◌, arith, eqb-true, leb-true, eqb, leb, get_or}
 use mathlib.Core.Logic.{by_cases}
-use Prim.Native.Nat.{ℕ, zero, suc, ◌/◌, ◌%◌, ◌<◌}
 use native.Mathlib.Decide.{ℕ_discrete}
-use native.Mathlib.Omega.{arith}
-use borrow.Author.Tests.{eqb-true, leb-true}
-use lib.Dec.{eqb, leb}
-use lib.ListN.{get_or}
 use Rattle.bits.specs.Bits.{low_bits}
 use Rattle.number.proofs.BoolLaws.{and_left, and_right}
 use Rattle.strip_test.specs.WholeOps.{whole_ops, packed, Small, Rows}

@@ -1,15 +1,7 @@
 -- Laws of the whole operations ahead: the outcome goes on past the operations that are counted.
-use mathlib.Core.Path.{◌≡◌, refl, sym, ap, ◌∙◌}
-use mathlib.Core.Bool.{Bool, true, false, cond}
-use mathlib.Core.List.{List, [], ◌∷◌, ◌++◌}
-use Prim.Native.Nat.{ℕ, zero, suc, ◌+◌, ◌*◌, ◌≤◌}
-use native.Mathlib.Omega.{arith}
-use lib.Dec.{eqb}
-use lib.ListN.{length, drop}
-use lib.Seq.{drop-drop}
+use Rattle.std.proofs.Common.{◌≡◌, refl, sym, ap, ◌∙◌, Bool, true, false, cond, List, [], ◌∷◌, ◌++◌, ℕ, zero, suc, ◌+◌, ◌*◌, ◌≤◌, arith, eqb, length, drop, drop-drop}
 use Rattle.bits.specs.Bits.{got, bit_value, below, pull}
 use Rattle.strip.specs.declared.Made.{Made}
-use Rattle.strip.specs.declared.Made.TheVariants as Made
 use Rattle.strip.specs.Strip.{plus, minus, Move, refuse, go, index_op, run_op, op_of, measured}
 use Rattle.strip_test.specs.Outcome.{outcome}
 use Rattle.strip_test.specs.WholeOps.{Row, nothing, after, three_bits, whole_ops, reach}

@@ -29,7 +29,8 @@ module _ (whole m n b i : ℕ) (s : List ℕ) (so_far : whole ≡ n + run_length
 
   pub run_breaks : i < length s → (get_or s i 0 ≡ b → ⊥) → n ≡ whole
   run_breaks h ne =
-      sym (so_far ∙ ap (λ (l : List ℕ). n + run_length m b l) (from_at s i h) ∙ ap (λ (k : ℕ). n + k) (run_other m b (get_or s i 0) (drop (i + 1) s) ne) ∙ add-zero
+      sym (so_far ∙ ap (λ (l : List ℕ). n + run_length m b l) (from_at s i h) ∙ ap (λ (k : ℕ). n + k) (run_other m b (get_or s i 0) (drop (i + 1) s) ne)
+      ∙ add-zero
       n)
 
   pub run-goes : (k : ℕ) → m ≡ suc k → i < length s → get_or s i 0 ≡ b → whole ≡ n + 1 + run_length k b (drop (i + 1) s)

@@ -1,5 +1,5 @@
 -- Laws of how many bits operations take: an operation 1, 3 or 10, whatever the step is, as long as it is 1 or 255.
-use Rattle.std.proofs.Common.{◌≡◌, ℕ, ◌+◌, ◌-◌, ◌*◌, ◌%◌, ◌^◌, ◌<◌, ◌≤◌, Bool, true, false, cond, eqb, List, [], ◌∷◌, length, sym, refl, ap, ◌∙◌, ap₂, zero-le, arith, lit<, length-append, eqb-true}
+use Rattle.std.proofs.Common.{◌≡◌, ℕ, ◌+◌, ◌*◌, ◌%◌, ◌^◌, ◌<◌, ◌≤◌, Bool, true, false, cond, eqb, List, [], ◌∷◌, length, sym, refl, ap, ◌∙◌, ap₂, zero-le, arith, lit<, length-append, eqb-true}
 use borrow.Author.Tests.{eqb-false}
 use Rattle.bits.specs.Bits.{low_bits}
 use Rattle.strip.specs.Strip.{plus, minus}

@@ -1,13 +1,5 @@
 -- Laws of bodies: where a body ends, and that it lies in its block where the table is right.
-use mathlib.Core.Path.{◌≡◌, refl}
-use mathlib.Core.Bool.{Bool, true, false, ◌&&◌, cond}
-use mathlib.Core.List.{List, ◌++◌}
-use Prim.Native.Nat.{ℕ, zero, suc, ◌+◌, ◌-◌, ◌*◌, ◌≤◌, ◌<◌}
-use native.Mathlib.Omega.{arith}
-use borrow.Author.Tests.{eq-eqb, ne_eqb}
-use native.Mathlib.Nat.{mul-le-mul_left}
-use lib.Dec.{eqb}
-use lib.ListN.{length, take, drop, replicate}
+use Rattle.std.proofs.Common.{◌≡◌, refl, Bool, true, false, ◌&&◌, cond, List, ◌++◌, ℕ, zero, suc, ◌+◌, ◌-◌, ◌*◌, ◌≤◌, ◌<◌, arith, eq-eqb, ne_eqb, mul-le-mul_left, eqb, length, take, drop, replicate}
 use Rattle.number.proofs.BoolLaws.{and_left, and_right}
 use Rattle.table.specs.Table.{offset_size, table_end, offset_at, offset_right, bodiless, offsets_right, table_right}
 use Rattle.table.specs.Body.{body_end, rows_at}

@@ -1,10 +1,5 @@
 -- Laws of the test of a whole block: one strip more.
-use mathlib.Core.Path.{◌≡◌, refl, sym, ap, ◌∙◌}
-use Prim.Native.Nat.{ℕ, zero, suc, ◌+◌}
-use native.Mathlib.Omega.{arith}
-use borrow.Author.Tests.{eq-eqb, ne_eqb}
-use mathlib.Core.Bool.{true}
-use mathlib.Core.List.{List}
+use Rattle.std.proofs.Common.{◌≡◌, refl, sym, ap, ◌∙◌, ℕ, zero, suc, ◌+◌, arith, eq-eqb, ne_eqb, true, List}
 use Rattle.strip.specs.Strip.{Strip, refused, values, made_of}
 use Rattle.strip_test.specs.Outcome.{test_of}
 use Rattle.strip.specs.Picture.{Picture, refusal, picture, answer_of}

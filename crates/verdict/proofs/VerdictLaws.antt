@@ -1,11 +1,8 @@
 -- Laws of verdicts: an image's own refusal is 8 or less, so it is never mistaken for 11 or for a cell that isn't judged; which verdicts are
 -- right; a table of verdicts after one more step; and what session's tables tell of the decoded room. Assumes nothing.
-use Prim.Native.Nat.{ℕ, zero, suc, ◌+◌, ◌-◌, ◌*◌, ◌/◌, ◌≤◌, ◌<◌}
-use mathlib.Core.Bool.{Bool, true, false, cond, not, ◌&&◌, ◌||◌, and-false, false≢true}
-use mathlib.Core.List.{List, [], ◌∷◌}
-use lib.Dec.{eqb, leb, ltb}
-use lib.ListN.{length, replicate, get_or, set, take, length-set, get_or-replicate, get_or-eq_default}
-use native.Mathlib.Omega.{arith}
+use Rattle.std.proofs.Common.{ℕ, zero, suc, ◌+◌, ◌-◌, ◌*◌, ◌/◌, ◌≤◌, ◌<◌, Bool, true, false, cond, not, ◌&&◌, ◌||◌, List, [], ◌∷◌, eqb, leb, ltb, length, replicate, get_or, set, take, length-set, arith, ◌≡◌, refl, sym, ap, ◌∙◌, get_or-take, get_or-set_same, get_or-set_other, eq-eqb, ne_eqb, le-leb, leb-true, leb-false, eqb-true}
+use mathlib.Core.Bool.{and-false, false≢true}
+use lib.ListN.{get_or-replicate, get_or-eq_default}
 use Rattle.number.proofs.BoolLaws.{and_left, and_right}
 use Rattle.bits.specs.Bits.{Pull, short, got, pull, bits_of}
 use Rattle.strip.specs.Strip.{Move, refuse, go, index_op, walk_op, run_op, change_op, op_of, measured, move_of, Strip, refused, values, onto, prepend, decode}
@@ -26,11 +23,9 @@ use Rattle.block.specs.declared.Found.TheVariants.{At, Missing}
 use Rattle.room.specs.Picture.{plane_in, plane_found, plane_test, smap_and_planes_test}
 use Rattle.image.specs.Image.{image_width, image_height, state_block, object_count, image_block, image_count, home_x, home_y, is_object, drawable}
 use Rattle.image.specs.Fault.{smap_test, image_test, state_test, image_fault}
-use mathlib.Core.Path.{◌≡◌, refl, sym, ap, ◌∙◌}
 use mathlib.Core.Logic.{by_cases}
 use native.Mathlib.Decide.{ℕ_discrete}
-use lib.Seq.{get_or-take, get_or-set_same, get_or-set_other}
-use borrow.Author.Tests.{eq-eqb, ne_eqb, le-leb, lt-leb, leb-true, leb-false, eqb-true, eqb-false}
+use borrow.Author.Tests.{lt-leb, eqb-false}
 use Rattle.objects.specs.Object.{object_block}
 use Rattle.room.specs.declared.Room.{Room}
 use Rattle.image.proofs.GatherLaws.{gathered-x, gathered-y, gathered-width, gathered-height}

@@ -1,0 +1,71 @@
+use Rattle.std.proofs.Common.{false, arith}
+use Rattle.decode.proofs.PaintLaws.{turned_many, turned_one, turned_no, stepped_as}
+use Rattle.decode.proofs.first.turn.Goals as goal
+
+pub groups-requires : goal.groups-requires
+groups-requires c =
+    let fits2 = c.fits in let refill = c.refill-st in
+    let pre = c.requires in
+    let f = refill.ensures in
+    let ok = fits2.ensures c.if-fits.true in
+    (pre.0, ok.enough, f.3.few, omega (arith, ok.room, pre.3), omega (arith, ok.room, pre.4))
+
+pub returns-then-fits : goal.returns-then-fits
+returns-then-fits c =
+    let groups = c.groups in let if1 = c.if-fits in
+    let fits2 = c.fits in let refill = c.refill-st in
+    let a = c.args in
+    let f = refill.ensures in
+    let ok = fits2.ensures if1.true in
+    turned_many false a.w a.total a.body.now a.from refill.result f.0 f.1 f.2 f.5 32 groups.result a.out.now _
+    groups.ensures.1 groups.ensures.0 ok.room f.3
+
+pub group-requires : goal.group-requires
+group-requires c =
+    let fits3 = c.fits-2 in let refill = c.refill-st in
+    let pre = c.requires in
+    let f = refill.ensures in
+    let ok = fits3.ensures c.if-fits-2.true in
+    (pre.0, ok.enough, f.3.few, omega (arith, ok.room, pre.3), omega (arith, ok.room, pre.4))
+
+pub returns-then-fits-2 : goal.returns-then-fits-2
+returns-then-fits-2 c =
+    let group = c.group in let if2 = c.if-fits-2 in
+    let fits3 = c.fits-2 in let refill = c.refill-st in
+    let a = c.args in
+    let f = refill.ensures in
+    let ok = fits3.ensures if2.true in
+    turned_many false a.w a.total a.body.now a.from refill.result f.0 f.1 f.2 f.5 9 group.result a.out.now _
+    group.ensures.3 group.ensures.2 ok.room f.3
+
+pub overflow_sub-to : goal.overflow_sub-to
+overflow_sub-to c =
+    let step = c.step in
+    let refill = c.refill-st in
+    let a = c.args in
+    let f = refill.ensures in
+    let e = stepped_as false a.w a.total a.body.now refill.result c.in-Go.is (step.ensures a.body.now f.3 f.4) in
+    omega (arith, e.0)
+
+pub fill-requires : goal.fill-requires
+fill-requires c =
+    let step = c.step in
+    let refill = c.refill-st in
+    let a = c.args in let pre = c.requires in
+    let f = refill.ensures in
+    let e = stepped_as false a.w a.total a.body.now refill.result c.in-Go.is (step.ensures a.body.now f.3 f.4) in
+    omega (arith, e.0, e.1, pre.4)
+
+pub returns-in-Go : goal.returns-in-Go
+returns-in-Go c =
+    let fill = c.fill in let step = c.step in let refill = c.refill-st in let a = c.args in
+    let f = refill.ensures in
+    let e = stepped_as false a.w a.total a.body.now refill.result c.in-Go.is (step.ensures a.body.now f.3 f.4) in
+    turned_one false a.w a.total a.body.now a.from refill.result f.0 f.1 f.2 f.5 _ a.out.now _ e fill.ensures.filled
+
+pub returns-in-Refuse : goal.returns-in-Refuse
+returns-in-Refuse c =
+    let step = c.step in let refill = c.refill-st in let a = c.args in
+    let f = refill.ensures in
+    let e = stepped_as false a.w a.total a.body.now refill.result c.in-Refuse.is (step.ensures a.body.now f.3 f.4) in
+    turned_no false a.w a.total a.body.now a.from refill.result f.0 f.1 f.2 f.5 _ e

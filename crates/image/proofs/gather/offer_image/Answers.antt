@@ -1,0 +1,19 @@
+use Rattle.std.proofs.Common.{arith, refl, sym, ◌∙◌}
+use Rattle.image.proofs.GatherLaws.{offered_row, offered_none}
+use Rattle.block.proofs.Laws.{need_at}
+use Rattle.image.proofs.gather.offer_image.Goals as goal
+
+-- `image::gather::offer_image` meets its contract. Assumes nothing.
+
+pub image_row-row-requires : goal.image_row-row-requires
+image_row-row-requires c =
+    let i = need_at _ _ _ _ _ _ _ (sym c.in-At.is ∙ c.need_tag.ensures) in
+    omega arith
+
+pub returns-in-At : goal.returns-in-At
+returns-in-At c =
+    let offer-row = c.offer_row in let image-row = c.image_row-row in let need-tag = c.need_tag in
+    offered_row _ _ _ _ _ _ _ _ (sym c.in-At.is ∙ need-tag.ensures) (rw image-row.ensures at offer-row.ensures)
+
+pub returns-in-Missing : goal.returns-in-Missing
+returns-in-Missing c = offered_none _ _ _ _ _ _ (sym c.in-Missing.is ∙ c.need_tag.ensures) refl
