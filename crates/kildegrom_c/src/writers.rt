@@ -1,0 +1,22 @@
+// The writers of whole blocks.
+ghost use Rattle.std.specs.Prelude.{◌≡◌, length};
+ghost use Rattle.block_writer.specs.Call.{smap_outcome, plane_outcome, answer_of, target_after};
+ghost use Rattle.kildegrom.specs.Word.{wrote_word};
+
+// Writes a background as a whole SMAP block.
+#[unsafe(no_mangle)]
+pub extern "C" fn kg_write_smap(rows: &[u8], out: &mut [u8], w: u32, h: u32) -> u64
+    ensures answer { result ≡ wrote_word (answer_of (smap_outcome w h rows.now (length out.old))) }
+    ensures target_after { out.new ≡ target_after (smap_outcome w h rows.now (length out.old)) out.old }
+{
+    kildegrom::writers::kg_write_smap(rows, out, w, h)
+}
+
+// Writes one plane's rows as the whole block ZP0k.
+#[unsafe(no_mangle)]
+pub extern "C" fn kg_write_plane(rows: &[u8], out: &mut [u8], w: u32, h: u32, k: u32) -> u64
+    ensures answer { result ≡ wrote_word (answer_of (plane_outcome k w h rows.now (length out.old))) }
+    ensures target_after { out.new ≡ target_after (plane_outcome k w h rows.now (length out.old)) out.old }
+{
+    kildegrom::writers::kg_write_plane(rows, out, w, h, k)
+}
