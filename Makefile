@@ -15,7 +15,7 @@
 #     make picture                     docs/harbour.png, docs/winter.png, docs/compared.png, docs/cast.png and docs/scene.png, the README's
 #     make test                        ./test
 #     make check                       ./test, too
-#     make clean                       removes target/: what was built, and what rt has proved
+#     make clean                       removes target/ and crates/*/out: what was built, and what rt has proved
 #     make help                        these lines
 
 PREFIX = /usr/local
@@ -42,11 +42,12 @@ all: $(LIBRARY)
 TREE = $(DESTDIR)$(if $(filter-out /%,$(firstword $(PREFIX))),$(CURDIR)/)$(PREFIX)
 install install-library uninstall: export TREE := $(TREE)
 
-# rt itself knows which crates are proved already; it is asked only where a source is newer than the library.
-CRATES := crates.txt $(shell find crates -name '*.rt' -o -name '*.antt')
+# rt itself knows which crates are proved already; it is asked only where a source is newer than the library, which it builds in the crate's out/.
+CRATES := crates.txt $(shell find crates -name out -prune -o -name '*.rt' -print -o -name '*.antt' -print)
 $(LIBRARY): $(CRATES)
-	$(RT) staticlib kildegrom
-	@touch -c $@
+	cd crates/kildegrom_c && $(RT) lib
+	@mkdir -p $(@D)
+	cp crates/kildegrom_c/out/libkildegrom_c.a $@
 
 # The archive's own objects: nothing is compiled again. What the calls are made of stays inside, so that no name of it can meet a host's.
 shared: $(SHARED)
@@ -104,11 +105,13 @@ install-library: $(LIBRARY) $(SHARED)
 # as they stand here, and in bin/ are links to the scripts.
 COMMANDS = list play show compare check
 PARTS = tools/common.sh tools/calls tools/refusal include/kildegrom.h rooms/cellar.room rooms/cellar.calls
-STARTED = target/bin/list_room target/bin/player $(OUT)/list $(OUT)/show $(OUT)/compare target/cargo/release/kildegrom-check
+RATTLE_PROGRAMS = crates/list_room/out/list_room crates/player/out/player
+STARTED = $(RATTLE_PROGRAMS) $(OUT)/list $(OUT)/show $(OUT)/compare target/cargo/release/kildegrom-check
 FOLDERS = tools include rooms bin
 
-target/bin/list_room target/bin/player: target/bin/%: $(CRATES)
-	$(RT) check $*
+# There is no command that only builds a program: where it is built, rt runs it, here on nothing.
+$(RATTLE_PROGRAMS): $(CRATES)
+	cd crates/$(@F) && $(RT) run < /dev/null > /dev/null
 	@touch -c $@
 
 CHECKER = $(foreach crate,checker reference common,host/$(crate)/Cargo.toml host/$(crate)/*.rs host/$(crate)/src/*.rs)
@@ -180,7 +183,7 @@ test check:
 	./test
 
 clean:
-	rm -rf target
+	rm -rf target crates/*/out
 
 help:
 	@sed -n 's/^#     //p' Makefile

@@ -30,8 +30,9 @@ BOXES = {
     "replay": (1, 2, "a history again"), "scene": (1, 5, "what a session is"), "climb": (1, 6, "parents that open"),
     "actor": (0, 3, "hidden, stamp"), "cast": (0, 4, "a whole cast"), "limbs": (0, 5, "ticks of limbs"), "costume": (0, 6, "starts"),
     "kildegrom": (0, 0, "the C calls"), "call_list": (0, 1, "calls in bytes"), "demands": (0, 2, "demands' pages"),
+    "kildegrom_c": (0, 3, "the C archive"),
     "listing": (0, 0, "a room as text"), "list_room": (0, 1, "./list"), "player": (0, 2, "./play"),
-    "list_test": (0, 3, "test of ./list"), "vectors": (0, 4, "test of strips"),
+    "list_test": (0, 3, "test of ./list"), "vectors": (0, 4, "test of strips"), "input": (0, 5, "a file's bytes"),
 }
 
 
@@ -49,7 +50,7 @@ def layers():
     """The layers of crates.txt, lowest first: name, text, crates."""
     found = []
     for line in read("crates.txt").split("\n"):
-        heading, crate = re.match(r"# ([a-z]+): (.+)", line), re.match(r"([a-z_]+):", line)
+        heading, crate = re.match(r"# ([a-z]+): (.+)", line), re.match(r"([a-z_]+)[^#:]*:", line)
         if heading:
             found.append((heading.group(1), heading.group(2), []))
         elif crate:

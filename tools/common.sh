@@ -64,6 +64,9 @@ ready() {
     "$top/tools/progress" "${@:2}" || exit "$unwritten"
 }
 
+# ready_proved CRATE: the same for a proved program. rt has no command that only builds it: where it has built it, it runs it, here on nothing.
+ready_proved() { ready "crates/$1/out/$1" "$1" sh -c "cd crates/$1 && exec rt run < /dev/null > /dev/null"; }
+
 # copy_room FILE COPY: the bytes that the proved program is given. It takes so many at most; one more tells it, and us, that there are more.
 most=65536 most_said=65,536
 copy_room() {
