@@ -1,0 +1,3 @@
+pub mod Answer
+pub mod Reason
+pub mod Refusal
