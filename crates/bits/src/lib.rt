@@ -8,7 +8,7 @@ ghost use Rattle.bits.specs.Bits.{Held, rest, Full, word_at, Views};
 ghost use Rattle.bits.specs.Reader.{Starts, Fetches, Hands, Shows, One};
 
 // A place among the bits of a body: the bit buffer `hold`, its number of bits, lowest first, and the bytes from `at` on not yet fetched.
-#[derive(Clone, Copy)]
+#[derive(Clone, Copy, Debug, PartialEq, Eq)]
 pub struct Cursor {
     at: usize,
     bits: u32,
@@ -16,14 +16,14 @@ pub struct Cursor {
 }
 
 // Bits that were handed out, as a number, low bit first, and the cursor behind them.
-#[derive(Clone, Copy)]
+#[derive(Clone, Copy, Debug, PartialEq, Eq)]
 pub struct Taken {
     pub value: u64,
     pub next: Cursor,
 }
 
 // 0 bits that were handed out, how many, and the cursor behind them.
-#[derive(Clone, Copy)]
+#[derive(Clone, Copy, Debug, PartialEq, Eq)]
 pub struct Zeros {
     pub count: u32,
     pub next: Cursor,
@@ -34,7 +34,7 @@ impl Cursor {
         ensures { Starts at result }
     {
         Cursor {
-            at: at,
+            at,
             bits: 0,
             hold: 0,
         }
@@ -68,12 +68,9 @@ impl Cursor {
         requires { (8 ≤ self.bits) × (self.bits ≤ 63) }
         ensures { (result.count ≤ 8) × Hands result.count 0 self result.next × (result.count < 8 → (s : List ℕ) → One (rest s result.next)) }
     {
-        let count = u64::trailing_zeros(self.hold % 256 + 256);
+        let count = (self.hold % 256 + 256).trailing_zeros();
         let next = self.take(count).next;
-        Zeros {
-            count: count,
-            next: next,
-        }
+        Zeros { count, next }
     }
 
     // The next n bits, not handed out. Where fewer are held the answer says nothing. An operation peeks at the bits of each of its outcomes and
@@ -95,7 +92,7 @@ impl Cursor {
         Cursor {
             at: at + 1,
             bits: self.bits + 8,
-            hold: self.hold + ((body[at] as u64) << self.bits),
+            hold: self.hold + (u64::from(body[at]) << self.bits),
         }
     }
 
@@ -105,10 +102,7 @@ impl Cursor {
         ensures { Fetches body.now self result × Full body.now result }
     {
         let mut cur = self;
-        while cur.at < body.len() {
-            if 56 <= cur.bits {
-                return cur;
-            }
+        while cur.at < body.len() && cur.bits < 56 {
             cur = cur.refill_byte(body);
         }
         cur
@@ -137,22 +131,11 @@ impl Cursor {
         ensures { Fetches body.now self result × Full body.now result }
     {
         if 8 <= body.len() - self.at {
-            return self.refill_word(body);
+            self.refill_word(body)
+        } else {
+            self.refill_bytes(body)
         }
-        self.refill_bytes(body)
     }
-}
-
-// Four bytes, the first lowest.
-fn word(body: &[u8], at: usize) -> u64
-    requires { at + 4 ≤ length body.now }
-    ensures { (result ≡ word_at body.now at) × (result < 2 ^ 32) }
-{
-    let a = body[at] as u64;
-    let b = body[at + 1] as u64;
-    let c = body[at + 2] as u64;
-    let d = body[at + 3] as u64;
-    a + (b + (c + d * 256) * 256) * 256
 }
 
 // Eight bytes, the first lowest.
@@ -160,9 +143,16 @@ fn eight(body: &[u8], at: usize) -> u64
     requires { at + 8 ≤ length body.now }
     ensures { result ≡ word_at body.now at + word_at body.now (at + 4) * 4294967296 }
 {
-    let low = word(body, at);
-    let high = word(body, at + 4);
-    low + high * 4294967296
+    u64::from_le_bytes([
+        body[at],
+        body[at + 1],
+        body[at + 2],
+        body[at + 3],
+        body[at + 4],
+        body[at + 5],
+        body[at + 6],
+        body[at + 7],
+    ])
 }
 
 // The bits from bit p on, at least 57 of them, where eight bytes are there from its byte on.

@@ -1,7 +1,9 @@
 -- Writes along a row of a grid: cells whose old values were all read before the first of them was written, and a run beside a run.
 -- Assumes nothing.
-use Rattle.std.proofs.Common.{◌≡◌, sym, ap, ◌∙◌, List, ℕ, ◌+◌, ◌*◌, ◌/◌, ◌%◌, ◌≤◌, ◌<◌, add-zero, arith, length, get_or, set}
+use Rattle.std.proofs.Common.{◌≡◌, sym, ap, ap₂, ◌∙◌, List, [], ◌∷◌, ◌++◌, append_assoc, ℕ, suc, ◌+◌, ◌*◌, ◌/◌, ◌%◌, ◌≤◌, ◌<◌, add-zero, arith, length, get_or, take, drop, drop-drop, set}
 use lib.Arith.{digits_mod}
+use lib.Seq.{sets-eq}
+use borrow.Rule.Slice.PartMut.{put_mid}
 use Rattle.grid.specs.Grid.{upd, rowed, boxed}
 use Rattle.grid.proofs.Upd.{get_or-upd, upd_then}
 use Rattle.grid.proofs.Box.{within-hi, within_cases, rowed_out, row-none, row_write, boxed_off, box_point, beside_point}
@@ -15,6 +17,25 @@ module _ (w x y c : ℕ) (g : ℕ → ℕ → ℕ) (l px : List ℕ) (fits : x +
 
   pub row_put : (j v : ℕ) → j ≡ y * w + (x + c) → j < length l → v ≡ g c (get_or l j 0) → set px j v ≡ upd (rowed w x y (c + 1) g) l
   row_put j v e h is = row_write w x y c g l px fits so j v e (is ∙ ap (g c) (sym (kept j e h)))
+
+-- eight bytes copied into the part of l from `at` on
+pub eight_copied : (l ys : List ℕ) (at k a b c d e f i j : ℕ) → ys ≡ a ∷ b ∷ c ∷ d ∷ e ∷ f ∷ i ∷ j ∷ [] → k ≡ 8 → at + 8 ≤ length l
+    → put_mid at k l ys
+    ≡ set (set (set (set (set (set (set (set l at a) (at + 1) b) (at + 2) c) (at + 3) d) (at + 4) e) (at + 5) f) (at + 6) i) (at + 7) j
+eight_copied l ys at k a b c d e f i j same long fits =
+    let vs : List ℕ = a ∷ b ∷ c ∷ d ∷ e ∷ f ∷ i ∷ j ∷ [] in
+    let one : at + 1 ≡ suc at = omega arith in
+    let two : at + 2 ≡ suc (suc at) = omega arith in
+    let three : at + 3 ≡ suc (suc (suc at)) = omega arith in
+    let four : at + 4 ≡ suc (suc (suc (suc at))) = omega arith in
+    let five : at + 5 ≡ suc (suc (suc (suc (suc at)))) = omega arith in
+    let six : at + 6 ≡ suc (suc (suc (suc (suc (suc at))))) = omega arith in
+    let seven : at + 7 ≡ suc (suc (suc (suc (suc (suc (suc at)))))) = omega arith in
+    ap₂ (λ (bs : List ℕ) (n : ℕ). put_mid at n l bs) same long
+    ∙ ap (λ (t : List ℕ). take at l ++ (vs ++ t)) (drop-drop 8 at l)
+    ∙ sym (append_assoc (take at l) vs (drop (at + 8) l))
+    ∙ sym (sets-eq vs l at fits)
+    ∙ rw (one, two, three, four, five, six, seven)
 
 -- eight cells
 module _ (w x y at : ℕ) (g : ℕ → ℕ → ℕ) (l : List ℕ) (fits : x + 8 ≤ w) (room : y * w + (x + 8) ≤ length l) (start : at ≡ y * w + x) where

@@ -32,10 +32,8 @@ pub fn plain(
         cond (eqb (get_or picture.now (from + k) 0) clear || false) o (get_or picture.now (from + k) 0))) frame.old }
 {
     let at = y * w + x;
-    let mut k = 0;
-    while k < n {
+    for k in 0..n {
         frame[at + k] = blend(picture[from + k], frame[at + k], clear, 0);
-        k += 1;
     }
 }
 
@@ -74,10 +72,8 @@ pub fn few(
         (get_or picture.now (from + k) 0))) frame.old }
 {
     let at = y * w + x;
-    let mut k = 0;
-    while k < n {
+    for k in 0..n {
         frame[at + k] = cell(frame, picture, at, from, clear, bits, k);
-        k += 1;
     }
 }
 
@@ -98,14 +94,7 @@ pub fn put_eight(
     ensures { frame.new ≡ set (set (set (set (set (set (set (set frame.old at a) (at + 1) b) (at + 2) c) (at + 3) d) (at + 4) e)
         (at + 5) f) (at + 6) g) (at + 7) h }
 {
-    frame[at] = a;
-    frame[at + 1] = b;
-    frame[at + 2] = c;
-    frame[at + 3] = d;
-    frame[at + 4] = e;
-    frame[at + 5] = f;
-    frame[at + 6] = g;
-    frame[at + 7] = h;
+    frame[at..at + 8].copy_from_slice(&[a, b, c, d, e, f, g, h]);
 }
 
 // A run of eight. All are made before one is written, so that the compiler takes the eight at once: for all that it knows, a store could change

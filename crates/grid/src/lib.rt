@@ -10,8 +10,8 @@ ghost use Rattle.grid.specs.Strip.{pixel_over, strip_over};
 pub fn pixel_over(value: u8, old: u8, index: u8, transparent: bool) -> u8
     ensures { result ≡ pixel_over index transparent value old }
 {
-    if transparent {
-        if value == index { old } else { value }
+    if transparent && value == index {
+        old
     } else {
         value
     }
@@ -35,16 +35,12 @@ pub fn blit_strip(
         ≡ upd (boxed w (8 * s) y0 8 rows (strip_over strip.now index transparent)) pixels.old }
 {
     let x0 = 8 * s;
-    let mut r = 0;
-    while r < rows {
+    for r in 0..rows {
         let at = (y0 + r) * w + x0;
         let from = 8 * r;
-        let mut c = 0;
-        while c < 8 {
+        for c in 0..8 {
             pixels[at + c] = pixel_over(strip[from + c], pixels[at + c], index, transparent);
-            c += 1;
         }
-        r += 1;
     }
 }
 
@@ -74,11 +70,9 @@ pub fn put_rows(
         ≡ upd (boxed width s ((k - 1) * h + y0) 1 n (rows_over rows.now replace)) masks.old }
 {
     let top = (k - 1) * h + y0;
-    let mut r = 0;
-    while r < n {
+    for r in 0..n {
         let at = (top + r) * width + s;
         masks[at] = mask_over(rows[r], masks[at], replace);
-        r += 1;
     }
 }
 
@@ -102,10 +96,8 @@ pub fn join_run(
         return;
     }
     let top = (k - 1) * h + y0;
-    let mut r = 0;
-    while r < n {
+    for r in 0..n {
         let at = (top + r) * width + s;
-        masks[at] = masks[at] | value;
-        r += 1;
+        masks[at] |= value;
     }
 }

@@ -1,33 +1,7 @@
--- Laws of runs of bytes that a loop stores in a buffer, one byte a turn.
-use Rattle.std.proofs.Common.{◌≡◌, refl, sym, ap, ◌∙◌, List, [], ◌∷◌, ◌++◌, append_assoc, ℕ, zero, suc, ◌+◌, ◌≤◌, ◌<◌, add-one, arith, length, get_or, take, drop, set, replicate, length-drop, take-append-drop, take-suc, take-suc-set, take-take, length-take-le, drop-drop, drop-set-lt, get_or-drop}
-use lib.ListN.{replicate-append-replicate}
+-- Laws of runs of bytes stored in a buffer.
+use Rattle.std.proofs.Common.{◌≡◌, refl, sym, ap, ◌∙◌, List, ◌∷◌, ◌++◌, ℕ, zero, suc, ◌+◌, ◌≤◌, arith, length, take, drop, set, replicate, take-append-drop, take-take, length-take-le, drop-drop, drop-set-lt}
 use lib.Seq.{take-append-add}
 use Rattle.number.specs.Buffer.{over}
-
--- one byte more after a run p
-store_more : (out d p : List ℕ) (at k b : ℕ) → at + k < length out → take (at + k) out ≡ take at d ++ p
-    → take (at + (k + 1)) (set out (at + k) b) ≡ take at d ++ (p ++ (b ∷ []))
-store_more out d p at k b room e =
-    let s : at + (k + 1) ≡ suc (at + k) = omega arith in
-    ap (λ (m : ℕ). take m (set out (at + k) b)) s
-    ∙ take-suc-set {A = ℕ} out (at + k) b room
-    ∙ ap (λ (q : List ℕ). q ++ (b ∷ [])) e
-    ∙ append_assoc (take at d) p (b ∷ [])
-
-pub fill_store : (out d : List ℕ) (from k b : ℕ) → from + k < length out → take (from + k) out ≡ take from d ++ replicate k b
-    → take (from + (k + 1)) (set out (from + k) b) ≡ take from d ++ replicate (k + 1) b
-fill_store out d from k b room e =
-    store_more out d (replicate k b) from k b room e ∙ ap (λ (p : List ℕ). take from d ++ p) (replicate-append-replicate k 1 b)
-
-pub copy_store : (out d s : List ℕ) (from to k : ℕ) → to + k < length out → from + k < length s
-    → take (to + k) out ≡ take to d ++ take k (drop from s)
-    → take (to + (k + 1)) (set out (to + k) (get_or s (from + k) 0)) ≡ take to d ++ take (k + 1) (drop from s)
-copy_store out d s from to k room there e =
-    let b = get_or s (from + k) 0 in
-    let left : k < length (drop from s) = omega (arith, length-drop from s) in
-    let more : take (k + 1) (drop from s) ≡ take k (drop from s) ++ (b ∷ []) =
-    rw (add-one, ← get_or-drop from s k 0) (take-suc (drop from s) k 0 left) in
-    store_more out d (take k (drop from s)) to k b room e ∙ ap (λ (p : List ℕ). take to d ++ p) (sym more)
 
 -- what lies behind the byte stored, and behind a run, is as it was
 pub drop_store : (out d : List ℕ) (i c : ℕ) → drop i out ≡ drop i d → drop (i + 1) (set out i c) ≡ drop (i + 1) d

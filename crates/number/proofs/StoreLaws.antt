@@ -1,13 +1,13 @@
 -- Laws of `sets l i vs`, the list l with vs stored from i on: runs of stores, and each byte afterwards.
-use Rattle.std.proofs.Common.{◌≡◌, refl, sym, ap, ◌∙◌, List, [], ◌∷◌, ◌++◌, append_assoc, ℕ, zero, suc, ◌+◌, ◌≤◌, ◌<◌, le_of_suc-le-suc, not-suc-le-zero, arith, length, get_or, take, drop, set, length-set, get_or-set_same, get_or-set_other}
+use Rattle.std.proofs.Common.{◌≡◌, refl, sym, ap, ap₂, ◌∙◌, List, [], ◌∷◌, ◌++◌, append_assoc, ℕ, zero, suc, ◌+◌, ◌/◌, ◌%◌, ◌≤◌, ◌<◌, le_of_suc-le-suc, not-suc-le-zero, arith, length, get_or, take, drop, drop-drop, set, length-set, get_or-set_same, get_or-set_other}
 use mathlib.Core.Logic.{by_cases}
 use native.Mathlib.Decide.{ℕ_discrete}
 use lib.Seq.{sets, sets-eq}
+use borrow.Rule.Slice.PartMut.{put_mid}
+use Rattle.std.specs.Int.{w16, w32, to_le_bytes, to_be_bytes}
+use Rattle.number.specs.Number.{le16_bytes, le32_bytes, be32_bytes}
 
--- two stores, one behind the other, are a run of stores; and so are two runs
-pub stores_two : (l : List ℕ) (n a b : ℕ) → set (set l n a) (n + 1) b ≡ sets l n (a ∷ b ∷ [])
-stores_two l n a b = let e : n + 1 ≡ suc n = omega arith in rw e
-
+-- two runs, one behind the other, are a run of stores
 pub sets-append : (xs ys l : List ℕ) (n : ℕ) → sets (sets l n xs) (n + length xs) ys ≡ sets l n (xs ++ ys)
 sets-append [] ys l n = let e : n + 0 ≡ n = omega arith in rw e
 sets-append (x ∷ xs) ys l n =
@@ -34,6 +34,37 @@ sets_in (v ∷ vs) l i j zero e h f =
     ∙ ap (λ (q : ℕ). get_or (set l i v) q 0) (omega arith)
     ∙ get_or-set_same l i v 0 (omega arith)
 sets_in (v ∷ vs) l i j (suc k) e h f = sets_in vs (set l i v) (suc i) j k (omega arith) (le_of_suc-le-suc h) (rw length-set (omega arith))
+
+-- a copy into the part of l from i on is a run of stores
+pub copied_is : (l ys vs : List ℕ) (i k : ℕ) → ys ≡ vs → k ≡ length vs → i + length vs ≤ length l → put_mid i k l ys ≡ sets l i vs
+copied_is l ys vs i k same long fits =
+    ap₂ (λ (bs : List ℕ) (n : ℕ). put_mid i n l bs) same long
+    ∙ ap (λ (t : List ℕ). take i l ++ (vs ++ t)) (drop-drop (length vs) i l)
+    ∙ sym (sets_is l i vs fits)
+
+-- ---- a number's bytes, as std's `to_le_bytes` and `to_be_bytes` give them
+
+pub le16_given : (n : ℕ) → to_le_bytes w16 (n % 65536) ≡ le16_bytes n
+unfolding le16_bytes
+le16_given n =
+    let a : n % 65536 % 256 ≡ n % 256 = omega arith in
+    let b : n % 65536 / 256 % 256 ≡ n / 256 % 256 = omega arith in cc
+
+pub le32_given : (n : ℕ) → to_le_bytes w32 (n % 4294967296) ≡ le32_bytes n
+unfolding le32_bytes
+le32_given n =
+    let a : n % 4294967296 % 256 ≡ n % 256 = omega arith in
+    let b : n % 4294967296 / 256 % 256 ≡ n / 256 % 256 = omega arith in
+    let c : n % 4294967296 / 65536 % 256 ≡ n / 65536 % 256 = omega arith in
+    let d : n % 4294967296 / 16777216 % 256 ≡ n / 16777216 % 256 = omega arith in cc
+
+pub be32_given : (n : ℕ) → to_be_bytes w32 (n % 4294967296) ≡ be32_bytes n
+unfolding be32_bytes
+be32_given n =
+    let a : n % 4294967296 % 256 ≡ n % 256 = omega arith in
+    let b : n % 4294967296 / 256 % 256 ≡ n / 256 % 256 = omega arith in
+    let c : n % 4294967296 / 65536 % 256 ≡ n / 65536 % 256 = omega arith in
+    let d : n % 4294967296 / 16777216 % 256 ≡ n / 16777216 % 256 = omega arith in cc
 
 -- ---- a table of f's values that is filled from its front: one more, and the places behind it
 

@@ -21,27 +21,21 @@ pub fn put_four(out: &mut [u8], at: usize, a: u8, b: u8, c: u8, d: u8)
 }
 
 // n copies of b into `out` from `from` on.
+#[tactic(auto, using(std::proofs::lemmas::Slice::overwrites))]
 pub fn fill(out: &mut [u8], from: usize, n: usize, b: u8)
     requires { from + n ≤ length out.old }
     ensures filled { take (from + n) out.new ≡ take from out.old ++ replicate n b }
     ensures rest_stays { drop (from + n) out.new ≡ drop (from + n) out.old }
 {
-    let mut k: usize = 0;
-    while k < n {
-        out[from + k] = b;
-        k += 1;
-    }
+    out[from..from + n].fill(b);
 }
 
 // n bytes of `src` from `from` on into `out` from `to` on.
+#[tactic(auto, using(std::proofs::lemmas::Slice::overwrites))]
 pub fn copy(src: &[u8], from: usize, n: usize, out: &mut [u8], to: usize)
     requires { (from + n ≤ length src.now) × (to + n ≤ length out.old) }
     ensures copied { take (to + n) out.new ≡ take to out.old ++ take n (drop from src.now) }
     ensures rest_stays { drop (to + n) out.new ≡ drop (to + n) out.old }
 {
-    let mut k: usize = 0;
-    while k < n {
-        out[to + k] = src[from + k];
-        k += 1;
-    }
+    out[to..to + n].copy_from_slice(&src[from..from + n]);
 }

@@ -8,7 +8,3 @@ invariant-loop-k l =
     (get_or l.picture (l.from + j) 0))) l.initial.frame)
     × (l.k ≤ l.n)
     × (length l.frame ≡ length l.initial.frame)
-
-abbrev pub decreases-loop-k : goal.decreases-loop-k
-decreases-loop-k l =
-    l.n - l.k

@@ -1,4 +1,4 @@
-use Rattle.std.proofs.Common.{◌≡◌, false, ◌||◌, cond, ◌+◌, ◌-◌, ◌≤◌, eqb, length, get_or}
+use Rattle.std.proofs.Common.{◌≡◌, false, ◌||◌, cond, ◌+◌, ◌≤◌, eqb, length, get_or}
 use Rattle.grid.specs.Grid.{upd, rowed}
 use Rattle.cells.proofs.plain.Given as goal
 
@@ -8,7 +8,3 @@ invariant-loop-k l =
     l.initial.frame)
     × (l.k ≤ l.n)
     × (length l.frame ≡ length l.initial.frame)
-
-abbrev pub decreases-loop-k : goal.decreases-loop-k
-decreases-loop-k l =
-    l.n - l.k

@@ -15,12 +15,6 @@ module _ (c : goal.In-loop-r) where
 pub loop-r-init : goal.loop-r-init
 loop-r-init c = (box_none _ _ _ _ _ _, omega arith, refl)
 
-pub overflow_mul-at : goal.overflow_mul-at
-overflow_mul-at c = omega (arith, cell c)
-
-pub overflow_add-at-in-loop-r : goal.overflow_add-at-in-loop-r
-overflow_add-at-in-loop-r c = omega (arith, cell c)
-
 pub loop-c-init : goal.loop-c-init
 loop-c-init c = (row-none _ _ _ _ _, omega arith, refl, omega (arith, cell c), omega arith)
 
@@ -40,8 +34,3 @@ loop-r-preserved c =
     let inv = c.loop-r.invariant in
     let full : c.loop-c.c ≡ 8 = omega arith in
     (box_more _ _ _ _ _ _ _ _ _ inv.0 (rw full at inv2.0), omega arith, inv2.2 ∙ inv.2)
-
-pub returns : goal.returns
-returns c =
-    let all : c.loop-r.r ≡ c.args.rows = omega arith in
-    rw all at c.loop-r.invariant.0

@@ -1,4 +1,4 @@
-use Rattle.std.proofs.Common.{◌≡◌, ◌+◌, ◌-◌, ◌≤◌, length}
+use Rattle.std.proofs.Common.{◌≡◌, ◌+◌, ◌≤◌, length}
 use Rattle.grid.specs.Grid.{upd, rowed, boxed}
 use Rattle.grid.specs.Strip.{strip_over}
 use Rattle.grid.proofs.blit_strip.Given as goal
@@ -9,13 +9,7 @@ invariant-loop-c l =
     × (length l.pixels ≡ length l.initial.pixels)
     × (l.at + 8 ≤ length l.initial.pixels) × (l.from + 8 ≤ length l.strip)
 
-abbrev pub decreases-loop-c : goal.decreases-loop-c
-decreases-loop-c l = 8 - l.c
-
 abbrev pub invariant-loop-r : goal.invariant-loop-r
 invariant-loop-r l =
     (l.pixels ≡ upd (boxed l.w l.x0 l.y0 8 l.r (strip_over l.strip l.index l.transparent)) l.initial.pixels) × (l.r ≤ l.rows)
     × (length l.pixels ≡ length l.initial.pixels)
-
-abbrev pub decreases-loop-r : goal.decreases-loop-r
-decreases-loop-r l = l.rows - l.r

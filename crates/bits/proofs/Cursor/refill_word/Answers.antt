@@ -3,9 +3,6 @@ use Rattle.bits.specs.Bits.{word_at}
 use Rattle.bits.proofs.CursorLaws.{size_of, eight-front, shift_exact, sum_fits, more_fetched}
 use Rattle.bits.proofs.Cursor.refill_word.Goals as goal
 
-pub nonzero_rem-taken : goal.nonzero_rem-taken
-nonzero_rem-taken c = rw (size_of (8 * ((63 - c.args.self.bits) / 8)) (omega arith)) (pow_pos (8 * ((63 - c.args.self.bits) / 8)))
-
 pub overflow_add-result-3 : goal.overflow_add-result-3
 overflow_add-result-3 c =
     let args = c.args in let pre = c.requires in
