@@ -1,18 +1,19 @@
 -- Laws of the block tree: what a walk over a list of blocks gives at a block, and where no block stands.
-use Rattle.std.proofs.Common.{◌≡◌, refl, ap, sym, ◌∙◌, List, [], ◌∷◌, Bool, true, false, ◌&&◌, cond, ℕ, zero, suc, ◌+◌, ◌-◌, ◌≤◌, ◌<◌, arith, sub-one, leb, eqb, get_or, length, leb-true, le-leb, ne_eqb, eq-eqb}
+use Rattle.std.proofs.Common.{◌≡◌, refl, ap, sym, ◌∙◌, List, [], ◌∷◌, Bool, true, false, ◌&&◌, cond, ℕ, zero, suc, ◌+◌, ◌-◌, ◌≤◌, ◌<◌, arith, sub-one, leb, eqb, get_or, length, leb-true, le-leb, ne_eqb, eq-eqb, Option, Some, None}
 use mathlib.Core.Path.{subst⁻¹}
 use mathlib.Core.Bool.{and-false}
 use borrow.Author.Tests.{lt-leb}
 use Rattle.number.proofs.BoolLaws.{and_left, and_right}
 use Rattle.number.specs.Number.{be32}
 use Rattle.block.specs.Tag.{container}
-use Rattle.block.specs.Tree.{block_end, walk, run, block_ok, list_ok, tagged, nth_tag, find_tag, need_tag, payload, Inside, well_formed, each_has, is_at}
-use Rattle.block.specs.declared.Found.{Found}
-use Rattle.block.specs.declared.Found.TheVariants.{At, Missing}
+use Rattle.block.specs.Tree.{block_end, found_end, walk, run, block_ok, list_ok, tagged, nth_tag, find_tag, need_tag, payload, Inside, well_formed, each_has, is_at}
 
 cond_pos : (b : Bool) (x : ℕ) → (cond b x 0 ≡ 0 → ⊥) → b ≡ true
 cond_pos true x h = refl
 cond_pos false x h = absurd (h refl)
+
+some-none : (z : ℕ) → ◌≡◌ {A = Option ℕ} (Some z) None → ⊥
+some-none z h = let e : ◌≡◌ {A = ℕ} 0 1 = cc in omega arith
 
 module _ (s : List ℕ) (a e : ℕ) where
   -- a block has a header, and ends in its list
@@ -54,6 +55,22 @@ module _ (s : List ℕ) (a e : ℕ) where
   pub end_short : 8 ≤ e → e - 8 < a → 0 ≡ block_end s a e
   unfolding block_end
   end_short l h = rw (lt-leb (a + 8) e (omega arith))
+
+-- what the code's answer says of the end
+pub some_end : (n z : ℕ) → Some z ≡ found_end n → (z ≡ n) × (z ≡ 0 → ⊥)
+some_end zero z h = absurd (some-none z h)
+some_end (suc n) z h = let same : ◌≡◌ {A = ℕ} z (suc n) = cc in (same, λ e. omega arith)
+
+pub none_end : (n : ℕ) → None ≡ found_end n → n ≡ 0
+none_end zero h = refl
+none_end (suc n) h = absurd (some-none (suc n) (sym h))
+
+pub is_end : (n z : ℕ) → n ≡ z → (z ≡ 0 → ⊥) → Some z ≡ found_end n
+is_end zero z h f = absurd (f (sym h))
+is_end (suc n) z h f = rw (← h)
+
+pub no_end : (n : ℕ) → 0 ≡ n → None ≡ found_end n
+no_end n h = rw (← h)
 
 -- what a walk gives at one block
 module _ {A : Type 0} (last : Bool → A) (step : ℕ → ℕ → A → A) (s : List ℕ) (e : ℕ) where
@@ -145,7 +162,7 @@ module _ (t : ℕ) (s : List ℕ) (e a z : ℕ) (ends : z ≡ block_end s a e) w
   tagged_stop h = run_stop _ _ s e a (sym ends ∙ h)
 
   module _ (f : z ≡ 0 → ⊥) (n : ℕ) (read : n ≡ be32 s a) where
-    pub tagged_here : n ≡ t → tagged t s a e ≡ At a z ∷ tagged t s z e
+    pub tagged_here : n ≡ t → tagged t s a e ≡ Some (a, z) ∷ tagged t s z e
     unfolding tagged
     tagged_here h = run_step _ _ s e a z (sym ends) f ∙ rw (← read, eq-eqb n t h)
 
@@ -154,76 +171,67 @@ module _ (t : ℕ) (s : List ℕ) (e a z : ℕ) (ends : z ≡ block_end s a e) w
     tagged-on h = run_step _ _ s e a z (sym ends) f ∙ rw (← read, ne_eqb n t h)
 
 -- an element further on
-get_or-down : (x : Found) (l : List Found) (k : ℕ) → (k ≡ 0 → ⊥) → get_or (x ∷ l) k Missing ≡ get_or l (k - 1) Missing
+get_or-down : (x : Option (ℕ × ℕ)) (l : List (Option (ℕ × ℕ))) (k : ℕ) → (k ≡ 0 → ⊥) → get_or (x ∷ l) k None ≡ get_or l (k - 1) None
 get_or-down x l zero f = absurd (f refl)
 get_or-down x l (suc k) f = rw sub-one
 
-abbrev AllIn : ℕ → ℕ → List Found → Type 0
-AllIn e a l = (k : ℕ) → Inside a e (get_or l k Missing)
+abbrev AllIn : ℕ → ℕ → List (Option (ℕ × ℕ)) → Type 0
+AllIn e a l = (k : ℕ) → Inside a e (get_or l k None)
 
-in_earlier : (a z e : ℕ) (f : Found) → a ≤ z → Inside z e f → Inside a e f
-in_earlier a z e (At b y) h i = omega arith
-in_earlier a z e Missing h i = tt
+in_earlier : (a z e : ℕ) (f : Option (ℕ × ℕ)) → a ≤ z → Inside z e f → Inside a e f
+in_earlier a z e (Some (b, y)) h i = omega arith
+in_earlier a z e None h i = tt
 
-in_cons : (a z e : ℕ) (l : List Found) → a + 8 ≤ z → z ≤ e → AllIn e z l → AllIn e a (At a z ∷ l)
+in_cons : (a z e : ℕ) (l : List (Option (ℕ × ℕ))) → a + 8 ≤ z → z ≤ e → AllIn e z l → AllIn e a (Some (a, z) ∷ l)
 in_cons a z e l h g i zero = omega arith
-in_cons a z e l h g i (suc k) = in_earlier a z e (get_or l k Missing) (omega arith) (i k)
+in_cons a z e l h g i (suc k) = in_earlier a z e (get_or l k None) (omega arith) (i k)
 
-in_step : (c : Bool) (a z e : ℕ) (l : List Found) → a + 8 ≤ z → z ≤ e → AllIn e z l → AllIn e a (cond c (At a z ∷ l) l)
+in_step : (c : Bool) (a z e : ℕ) (l : List (Option (ℕ × ℕ))) → a + 8 ≤ z → z ≤ e → AllIn e z l → AllIn e a (cond c (Some (a, z) ∷ l) l)
 in_step true a z e l h g i k = in_cons a z e l h g i k
-in_step false a z e l h g i k = in_earlier a z e (get_or l k Missing) (omega arith) (i k)
+in_step false a z e l h g i k = in_earlier a z e (get_or l k None) (omega arith) (i k)
 
 -- a block that is found lies in the list
 pub nth_in : (t : ℕ) (s : List ℕ) (a e k : ℕ) → Inside a e (nth_tag t s a e k)
 unfolding tagged run
 nth_in t s a e k = walk-all _ _ s e (AllIn e) (λ a b k. tt) (λ a z r h g i. in_step (eqb (be32 s a) t) a z e r h g i) (e - a) a k
 
-pub nth_at : (t : ℕ) (s : List ℕ) (a e k b z : ℕ) → At b z ≡ nth_tag t s a e k → (a ≤ b) × (b + 8 ≤ z) × (z ≤ e)
+pub nth_at : (t : ℕ) (s : List ℕ) (a e k b z : ℕ) → Some (b, z) ≡ nth_tag t s a e k → (a ≤ b) × (b + 8 ≤ z) × (z ≤ e)
 nth_at t s a e k b z h = subst⁻¹ (Inside a e) h (nth_in t s a e k)
 
-abbrev pub Held : ℕ → ℕ → ℕ → Found → Type 0
-Held n a e (At p z) = (a + 8 ≤ p) × (p + n ≤ z) × (z ≤ e)
-Held n a e Missing = Unit {0}
+abbrev pub Held : ℕ → ℕ → ℕ → Option (ℕ × ℕ) → Type 0
+Held n a e (Some (p, z)) = (a + 8 ≤ p) × (p + n ≤ z) × (z ≤ e)
+Held n a e None = Unit {0}
 
-held-cond : (c : Bool) (n a e b z : ℕ) → leb n (z - (b + 8)) ≡ c → Inside a e (At b z) → Held n a e (cond c (At (b + 8) z) Missing)
+held-cond : (c : Bool) (n a e b z : ℕ) → leb n (z - (b + 8)) ≡ c → Inside a e (Some (b, z)) → Held n a e (cond c (Some (b + 8, z)) None)
 held-cond true n a e b z h i = omega (arith, leb-true n (z - (b + 8)) h)
 held-cond false n a e b z h i = tt
 
-payload_in : (n a e : ℕ) (f : Found) → Inside a e f → Held n a e (payload n f)
+payload_in : (n a e : ℕ) (f : Option (ℕ × ℕ)) → Inside a e f → Held n a e (payload n f)
 unfolding payload
-payload_in n a e (At b z) i = held-cond (leb n (z - (b + 8))) n a e b z refl i
-payload_in n a e Missing i = tt
+payload_in n a e (Some (b, z)) i = held-cond (leb n (z - (b + 8))) n a e b z refl i
+payload_in n a e None i = tt
 
 pub need_in : (t n : ℕ) (s : List ℕ) (a e : ℕ) → Held n a e (need_tag t n s a e)
 need_in t n s a e = payload_in n a e (find_tag t s a e) (nth_in t s a e 0)
 
-pub need_at : (t n : ℕ) (s : List ℕ) (a e p z : ℕ) → At p z ≡ need_tag t n s a e → (a + 8 ≤ p) × (p + n ≤ z) × (z ≤ e)
+pub need_at : (t n : ℕ) (s : List ℕ) (a e p z : ℕ) → Some (p, z) ≡ need_tag t n s a e → (a + 8 ≤ p) × (p + n ≤ z) × (z ≤ e)
 need_at t n s a e p z h = subst⁻¹ (Held n a e) h (need_in t n s a e)
 
--- the payload of a block that was found, from the test that the code makes
-module _ (n b z : ℕ) (f : Found) (found : At b z ≡ f) where
-  pub payload-long : n ≤ z - (b + 8) → At (b + 8) z ≡ payload n f
-  unfolding payload
-  payload-long h = rw (← found, le-leb n (z - (b + 8)) h)
-
-  pub payload-short : z - (b + 8) < n → Missing ≡ payload n f
-  unfolding payload
-  payload-short h = rw (← found, lt-leb n (z - (b + 8)) h)
-
-pub payload-none : (n : ℕ) (f : Found) → Missing ≡ f → Missing ≡ payload n f
+-- the payload of a block that was found, where it has n bytes or more
+pub payload-long : (n b z : ℕ) (f : Option (ℕ × ℕ)) → Some (b, z) ≡ f → n ≤ z - (b + 8) → Some (b + 8, z) ≡ payload n f
 unfolding payload
-payload-none n f h = rw (← h)
+payload-long n b z f found h = rw (← found, le-leb n (z - (b + 8)) h)
 
 module _ (t : ℕ) (s : List ℕ) (e a z : ℕ) (ends : z ≡ block_end s a e) (k : ℕ) where
-  pub nth_stop : z ≡ 0 → Missing ≡ nth_tag t s a e k
+  pub nth_stop : z ≡ 0 → None ≡ nth_tag t s a e k
   nth_stop h = rw (tagged_stop t s e a z ends h)
 
   module _ (f : z ≡ 0 → ⊥) (n : ℕ) (read : n ≡ be32 s a) where
-    pub nth_here : n ≡ t → k ≡ 0 → At a z ≡ nth_tag t s a e k
+    pub nth_here : n ≡ t → k ≡ 0 → Some (a, z) ≡ nth_tag t s a e k
     nth_here h g = rw (tagged_here t s e a z ends f n read h, g)
 
     pub nth-down : n ≡ t → (k ≡ 0 → ⊥) → nth_tag t s z e (k - 1) ≡ nth_tag t s a e k
-    nth-down h g = rw (tagged_here t s e a z ends f n read h) (sym (get_or-down (At a z) (tagged t s z e) k g))
+    nth-down h g = rw (tagged_here t s e a z ends f n read h) (sym (get_or-down (Some (a, z)) (tagged t s z e) k g))
 
     pub nth_on : (n ≡ t → ⊥) → nth_tag t s z e k ≡ nth_tag t s a e k
     nth_on h = rw (tagged-on t s e a z ends f n read h)

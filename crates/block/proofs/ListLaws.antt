@@ -1,10 +1,8 @@
 -- Blocks that stand one after another in a list: what the tests and the searches of the tree find of them, for any number of blocks.
-use Rattle.std.proofs.Common.{◌≡◌, refl, sym, ap, ◌∙◌, List, [], ◌∷◌, true, false, ℕ, zero, suc, ◌+◌, ◌-◌, ◌≤◌, ◌<◌, add-zero, arith, eq-eqb, get_or}
+use Rattle.std.proofs.Common.{◌≡◌, refl, sym, ap, ◌∙◌, List, [], ◌∷◌, true, false, ℕ, zero, suc, ◌+◌, ◌-◌, ◌≤◌, ◌<◌, add-zero, arith, eq-eqb, get_or, Option, Some, None}
 use Rattle.number.specs.Number.{be32, be32_bytes}
 use Rattle.block.specs.Tag.{container}
 use Rattle.block.specs.Tree.{block_end, block_ok, list_ok, tagged, find_tag}
-use Rattle.block.specs.declared.Found.{Found}
-use Rattle.block.specs.declared.Found.TheVariants.{At, Missing}
 use Rattle.block.proofs.Laws.{end_none, end_at, list_stop, list_on, block_in, block_leaf, tagged_stop, tagged_here, tagged-on}
 
 -- a block with the tag t stands in [a, z) of s
@@ -78,16 +76,16 @@ module _ (s : List ℕ) (n : ℕ) (t at : ℕ → ℕ) (stands : (j : ℕ) → j
 
   -- block k is the first with its tag
   module _ (k : ℕ) (lt : k < n) (first : (j : ℕ) → j < k → t j ≡ t k → ⊥) where
-    here : tagged (t k) s (at k) (at n) ≡ At (at k) (at (suc k)) ∷ tagged (t k) s (at (suc k)) (at n)
+    here : tagged (t k) s (at k) (at n) ≡ Some (at k, at (suc k)) ∷ tagged (t k) s (at (suc k)) (at n)
     here =
         tagged_here (t k) s (at n) (at k) (at (suc k)) (ends k lt) (some (t k) s (at k) (at (suc k)) (stands k lt)) (be32 s (at k)) refl (stands k lt).tag
 
-    find_from : (m j : ℕ) → j + m ≡ k → find_tag (t k) s (at j) (at n) ≡ At (at k) (at (suc k))
+    find_from : (m j : ℕ) → j + m ≡ k → find_tag (t k) s (at j) (at n) ≡ Some (at k, at (suc k))
     find_from zero j e =
         let same : j ≡ k = sym (add-zero j) ∙ e in
-        ap (λ (i : ℕ). find_tag (t k) s (at i) (at n)) same ∙ ap (λ (l : List Found). get_or l 0 Missing) here
+        ap (λ (i : ℕ). find_tag (t k) s (at i) (at n)) same ∙ ap (λ (l : List (Option (ℕ × ℕ))). get_or l 0 None) here
     find_from (suc m) j e =
-        ap (λ (l : List Found). get_or l 0 Missing) (passed (t k) j (omega arith) (first j (omega arith))) ∙ find_from m (suc j) (omega arith)
+        ap (λ (l : List (Option (ℕ × ℕ))). get_or l 0 None) (passed (t k) j (omega arith) (first j (omega arith))) ∙ find_from m (suc j) (omega arith)
 
-    pub find_first : find_tag (t k) s (at 0) (at n) ≡ At (at k) (at (suc k))
+    pub find_first : find_tag (t k) s (at 0) (at n) ≡ Some (at k, at (suc k))
     find_first = find_from k 0 (omega arith)

@@ -1,27 +1,14 @@
-// The block tree of a room (document 01, "Blocks").
+// The block tree of a room (document 01, "Blocks"). A block that was found is the pair of its first byte and the byte after its last.
 #![tactic(auto)]
 
 pub mod tags;
 
 ghost use Rattle.std.specs.Prelude.{◌≡◌, ◌+◌, ◌≤◌, length};
-ghost use Rattle.block.specs.Tag.{container, digit};
-ghost use Rattle.block.specs.Tree.{block_end, block_ok, list_ok, well_formed, find_tag, count_tag, nth_tag, need_tag, is_at, each_has};
+ghost use Rattle.block.specs.Tag.{container};
+ghost use Rattle.block.specs.Tree.{block_end, found_end, block_ok, list_ok, well_formed, find_tag, count_tag, nth_tag, need_tag, is_at, each_has};
 
 use crate::tags::{OBCD, OBIM, RMIM, ROOM};
 use number::read_be32;
-
-// Where a block stands: its first byte, and the byte after its last.
-#[derive(Clone, Copy)]
-pub enum Found {
-    At(usize, usize),
-    Missing,
-}
-
-fn is_digit(b: u8) -> bool
-    ensures { result ≡ digit b }
-{
-    (48 <= b) & (b <= 57)
-}
 
 // Whether the four bytes at `at` are the tag of a container.
 fn is_container(s: &[u8], at: usize) -> bool
@@ -33,28 +20,25 @@ fn is_container(s: &[u8], at: usize) -> bool
         | (t == RMIM)
         | (t == OBIM)
         | (t == OBCD)
-        | ((s[at] == 73) & (s[at + 1] == 77) & is_digit(s[at + 2]) & is_digit(s[at + 3]))
+        | ((s[at] == b'I')
+            & (s[at + 1] == b'M')
+            & s[at + 2].is_ascii_digit()
+            & s[at + 3].is_ascii_digit())
 }
 
-// Where the block at `a` ends, in a list of blocks that ends at `e`; 0 where no block stands there.
-fn block_end(s: &[u8], a: usize, e: usize) -> usize
+// Where the block at `a` ends, in a list of blocks that ends at `e`, if a block stands there.
+fn block_end(s: &[u8], a: usize, e: usize) -> Option<usize>
     requires { e ≤ length s.now }
-    ensures { result ≡ block_end s.now a e }
+    ensures { result ≡ found_end (block_end s.now a e) }
 {
-    if e < 8 {
-        return 0;
-    }
-    if e - 8 < a {
-        return 0;
+    if e < 8 || e - 8 < a {
+        return None;
     }
     let n = read_be32(s, a + 4);
-    if n < 8 {
-        return 0;
+    if n < 8 || n > e - a {
+        return None;
     }
-    if n > e - a {
-        return 0;
-    }
-    a + n
+    Some(a + n)
 }
 
 // Whether the blocks of the list in [at, end) fill it, each right with `left` depths left.
@@ -64,17 +48,13 @@ fn list_ok(s: &[u8], at: usize, end: usize, left: usize) -> bool
     ensures { result ≡ list_ok left s.now at end }
 {
     let mut a = at;
-    loop {
-        let z = block_end(s, a, end);
-        if z == 0 {
-            return a == end;
-        }
-        if block_ok(s, a, z, left) {
-            a = z;
-        } else {
+    while let Some(z) = block_end(s, a, end) {
+        if !block_ok(s, a, z, left) {
             return false;
         }
+        a = z;
     }
+    a == end
 }
 
 // Whether the block in [a, z) is right, with `left` depths left.
@@ -105,7 +85,7 @@ pub fn well_formed(s: &[u8]) -> bool
     if n < 8 {
         return false;
     }
-    (read_be32(s, 0) == ROOM) & (block_end(s, 0, n) == n) & block_ok(s, 0, n, 6)
+    (read_be32(s, 0) == ROOM) & (block_end(s, 0, n) == Some(n)) & block_ok(s, 0, n, 6)
 }
 
 // How many blocks of the list in [at, end) have the tag `tag`.
@@ -115,42 +95,36 @@ pub fn count_tag(s: &[u8], at: usize, end: usize, tag: usize) -> usize
 {
     let mut a = at;
     let mut n = 0;
-    loop {
-        let z = block_end(s, a, end);
-        if z == 0 {
-            return n;
-        }
+    while let Some(z) = block_end(s, a, end) {
         if read_be32(s, a) == tag {
             n += 1;
         }
         a = z;
     }
+    n
 }
 
 // The block number `k`, from 0, among those of the list in [at, end) with the tag `tag`.
-pub fn nth_tag(s: &[u8], at: usize, end: usize, tag: usize, k: usize) -> Found
+pub fn nth_tag(s: &[u8], at: usize, end: usize, tag: usize, k: usize) -> Option<(usize, usize)>
     requires { end ≤ length s.now }
     ensures { result ≡ nth_tag tag s.now at end k }
 {
     let mut a = at;
     let mut left = k;
-    loop {
-        let z = block_end(s, a, end);
-        if z == 0 {
-            return Found::Missing;
-        }
+    while let Some(z) = block_end(s, a, end) {
         if read_be32(s, a) == tag {
             if left == 0 {
-                return Found::At(a, z);
+                return Some((a, z));
             }
             left -= 1;
         }
         a = z;
     }
+    None
 }
 
 // The first block with the tag `tag` of the list in [at, end).
-pub fn find_tag(s: &[u8], at: usize, end: usize, tag: usize) -> Found
+pub fn find_tag(s: &[u8], at: usize, end: usize, tag: usize) -> Option<(usize, usize)>
     requires { end ≤ length s.now }
     ensures { result ≡ find_tag tag s.now at end }
 {
@@ -158,21 +132,13 @@ pub fn find_tag(s: &[u8], at: usize, end: usize, tag: usize) -> Found
 }
 
 // The payload of the first block with the tag `tag` of the list in [at, end), where it is there and has `n` bytes or more.
-pub fn need_tag(s: &[u8], at: usize, end: usize, tag: usize, n: usize) -> Found
+pub fn need_tag(s: &[u8], at: usize, end: usize, tag: usize, n: usize) -> Option<(usize, usize)>
     requires { end ≤ length s.now }
     ensures { result ≡ need_tag tag n s.now at end }
 {
-    match find_tag(s, at, end, tag) {
-        Found::At(b, z) => {
-            let p = b + 8;
-            if n <= z - p {
-                Found::At(p, z)
-            } else {
-                Found::Missing
-            }
-        }
-        Found::Missing => Found::Missing,
-    }
+    let (b, z) = find_tag(s, at, end, tag)?;
+    let p = b + 8;
+    (n <= z - p).then_some((p, z))
 }
 
 // Whether the list in [at, end) has a block with the tag `tag`, of `n` bytes or more.
@@ -180,10 +146,7 @@ fn has_tag(s: &[u8], at: usize, end: usize, tag: usize, n: usize) -> bool
     requires { end ≤ length s.now }
     ensures { result ≡ is_at (need_tag tag n s.now at end) }
 {
-    match need_tag(s, at, end, tag, n) {
-        Found::At(_, _) => true,
-        Found::Missing => false,
-    }
+    need_tag(s, at, end, tag, n).is_some()
 }
 
 // Whether every block of the list in [at, end) with the tag `tag` has one with the tag `child` in it, of `n` bytes or more.
@@ -192,19 +155,13 @@ pub fn each_has(s: &[u8], at: usize, end: usize, tag: usize, child: usize, n: us
     ensures { result ≡ each_has tag child n s.now at end }
 {
     let mut a = at;
-    loop {
-        let z = block_end(s, a, end);
-        if z == 0 {
-            return true;
-        }
+    while let Some(z) = block_end(s, a, end) {
         if read_be32(s, a) == tag {
-            if has_tag(s, a + 8, z, child, n) {
-                a = z;
-            } else {
+            if !has_tag(s, a + 8, z, child, n) {
                 return false;
             }
-        } else {
-            a = z;
         }
+        a = z;
     }
+    true
 }

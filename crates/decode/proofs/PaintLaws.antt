@@ -1,18 +1,15 @@
 -- Laws of painting from place to place of a strip: paintings go on from one another, up to the whole strip.
-use Rattle.std.proofs.Common.{◌≡◌, sym, ap, ap₂, ◌∙◌, subst, Bool, true, false, true≢false, List, ◌++◌, append-nil, ℕ, zero, suc, ◌+◌, ◌-◌, ◌≤◌, ◌<◌, arith, length, take, set, replicate, take-suc-set}
+use Rattle.std.proofs.Common.{◌≡◌, sym, ap, ap₂, ◌∙◌, Bool, true, false, true≢false, List, ◌++◌, append-nil, ℕ, zero, suc, ◌+◌, ◌-◌, ◌≤◌, ◌<◌, arith, length, take, set, replicate, take-suc-set, Ok, Err}
 use Rattle.bits.specs.declared.Cursor.{Cursor}
 use Rattle.bits.specs.Bits.{rest, Held}
 use Rattle.bits.specs.Reader.{Hands, One}
 use Rattle.bits.proofs.BitLaws.{got_tail}
 use Rattle.strip.specs.declared.State.{State}
-use Rattle.strip.specs.declared.Next.{Next}
-use Rattle.strip.specs.declared.Next.TheVariants.{Go, Refuse}
-use Rattle.strip.specs.declared.Made.{Made}
 use Rattle.strip.specs.Strip.{Strip, refused, values, prepend, decode}
 use Rattle.strip.specs.Place.{op_length, second_bit, Whole, run_ahead, ahead, Gives, Stepped, Leads, kept_by}
 use Rattle.strip.proofs.StripLaws.{prepend-prepend, decode-pending}
 use Rattle.strip.proofs.PlaceLaws.{gives_op, gives_kept}
-use Rattle.decode.specs.Paint.{Painted, Paints, Advances, Turned, Decoded}
+use Rattle.decode.specs.Paint.{Painted, Paints, Advances, Turned}
 
 module _ (second : Bool) (w total : ℕ) (s : List ℕ) where
   pub paints : (st to : State) (out out' : List ℕ) → Gives second w total s st to → take to.i out' ≡ take st.i out ++ replicate (to.i - st.i)
@@ -99,7 +96,7 @@ module _ (second : Bool) (w total : ℕ) (s : List ℕ) (from st : State) (ei : 
   same-painted x out p = p ∙ ap₂ (λ (j : ℕ) (y : Strip). prepend (take j out) y) (sym ei) same_ahead
 
   pub turned_many : (n : ℕ) (to : State) (out out' : List ℕ) → Advances second w n st out to out' → st.i < to.i → st.i + n ≤ total → Held s st.cur
-      → Turned second w total s from out out' (Go to)
+      → Turned second w total s from out out' (Ok to)
   turned_many n to out out' f some room held = (
     omega arith,
     omega (arith, f.few),
@@ -107,8 +104,8 @@ module _ (second : Bool) (w total : ℕ) (s : List ℕ) (from st : State) (ei : 
     record { on = λ x p. (f.paints s total room).on x (same-painted x out p) },
   )
 
-  pub turned_one : (to : State) (out out' : List ℕ) → Stepped second w total s st (Go to)
-      → take (st.i + (to.i - st.i)) out' ≡ take st.i out ++ replicate (to.i - st.i) to.colour → Turned second w total s from out out' (Go to)
+  pub turned_one : (to : State) (out out' : List ℕ) → Stepped second w total s st (Ok to)
+      → take (st.i + (to.i - st.i)) out' ≡ take st.i out ++ replicate (to.i - st.i) to.colour → Turned second w total s from out out' (Ok to)
   turned_one to out out' h e =
       let more = h.0 in
       let b : to.i ≡ st.i + (to.i - st.i) = omega (arith, more) in (
@@ -118,11 +115,8 @@ module _ (second : Bool) (w total : ℕ) (s : List ℕ) (from st : State) (ei : 
         record { on = λ x p. (paints second w total s st to out out' h.3 (ap (λ (j : ℕ). take j out') b ∙ e)).on x (same-painted x out p) },
       )
 
-  pub turned_no : (n : ℕ) → Stepped second w total s st (Refuse n) → ahead second w total s from ≡ refused n
+  pub turned_no : (n : ℕ) → Stepped second w total s st (Err n) → ahead second w total s from ≡ refused n
   turned_no n h = same_ahead ∙ h
-
-pub stepped_as : (second : Bool) (w total : ℕ) (s : List ℕ) (st : State) {r r' : Next} → r ≡ r' → Stepped second w total s st r → Stepped second w total s st r'
-stepped_as second w total s st e h = subst (λ r. Stepped second w total s st r) e h
 
 -- ---- the painting of a whole strip
 
@@ -148,10 +142,3 @@ module _ (second : Bool) (w total : ℕ) where
 
     pub paint_no : (n : ℕ) → ahead second w total s st ≡ refused n → x ≡ refused n
     paint_no n e = painted ∙ ap (prepend (take st.i out)) e
-
-  pub turned_as : (s : List ℕ) (st : State) (out out' : List ℕ) {r r' : Next} → r ≡ r' → Turned second w total s st out out' r → Turned second w total s st out
-      out' r'
-  turned_as s st out out' e h = subst (λ r. Turned second w total s st out out' r) e h
-
-pub told_drew : (n : ℕ) (x : Strip) (out : List ℕ) {r r' : Made} → r ≡ r' → Decoded n x out r → Decoded n x out r'
-told_drew n x out e h = subst (λ q. Decoded n x out q) e h

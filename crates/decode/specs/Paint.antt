@@ -1,13 +1,9 @@
 -- What painting from place to place of a strip comes to. A painting may take many operations at once: that what it paints is the decode's
 -- is said here, once for both methods.
 -- For the proofs: no public promise rests on what this page says.
-use Rattle.std.specs.Prelude.{ℕ, ◌+◌, ◌≤◌, ◌<◌, ◌≡◌, Bool, List, take}
+use Rattle.std.specs.Prelude.{ℕ, ◌+◌, ◌≤◌, ◌<◌, ◌≡◌, Bool, List, take, Result, Ok, Err}
 use Rattle.bits.specs.Bits.{Held}
 use Rattle.strip.specs.declared.State.{State}
-use Rattle.strip.specs.declared.Next.{Next}
-use Rattle.strip.specs.declared.Next.TheVariants.{Go, Refuse}
-use Rattle.strip.specs.declared.Made.{Made}
-use Rattle.strip.specs.declared.Made.TheVariants.{All, Refused}
 use Rattle.strip.specs.Strip.{Strip, refused, values, prepend}
 use Rattle.strip.specs.Place.{ahead}
 
@@ -27,11 +23,11 @@ pub record Advances (second : Bool) (w n : ℕ) (st : State) (out : List ℕ) (t
   pub paints : (s : List ℕ) (total : ℕ) → st.i + n ≤ total → Paints second w total s st out to out'
 
 -- the answer to a turn of the painting
-abbrev pub Turned : Bool → (w total : ℕ) → List ℕ → State → (out out' : List ℕ) → Next → Type 0
-Turned second w total s st out out' (Go to) = (st.i < to.i) × (to.i ≤ total) × Held s to.cur × Paints second w total s st out to out'
-Turned second w total s st out out' (Refuse n) = ahead second w total s st ≡ refused n
+abbrev pub Turned : Bool → (w total : ℕ) → List ℕ → State → (out out' : List ℕ) → Result State ℕ → Type 0
+Turned second w total s st out out' (Ok to) = (st.i < to.i) × (to.i ≤ total) × Held s to.cur × Paints second w total s st out to out'
+Turned second w total s st out out' (Err n) = ahead second w total s st ≡ refused n
 
 -- the answer r to a decode x of n pixels into a buffer, which is e after
-abbrev pub Decoded : ℕ → Strip → List ℕ → Made → Type 0
-Decoded n x e All = x ≡ values (take n e)
-Decoded n x e (Refused r) = x ≡ refused r
+abbrev pub Decoded : ℕ → Strip → List ℕ → Result (Unit {0}) ℕ → Type 0
+Decoded n x e (Ok tt) = x ≡ values (take n e)
+Decoded n x e (Err r) = x ≡ refused r

@@ -2,29 +2,29 @@
 // crate strip_test.
 #![tactic(auto)]
 
-mod first;
+mod groups;
 mod painting;
 mod placing;
-mod second;
 
 ghost use Rattle.std.specs.Prelude.{◌*◌, ◌≤◌, length, drop};
 ghost use Rattle.strip.specs.Picture.{raw_of, coded_of, strip_of, Answered};
 
 use painting::paint_bits;
 use placing::place;
+use refusal::{Reason, Refusal};
+use strip::Kind;
 use strip::codes::kind_of;
-use strip::{Answer, Kind, Made};
 
 // Code 01: the 8h pixel bytes follow the code, by rows.
-fn raw(body: &[u8], h: usize, out: &mut [u8]) -> Answer
+fn raw(body: &[u8], h: usize, out: &mut [u8]) -> Result<bool, Refusal>
     requires { (h ≤ 200) × (1 ≤ length body.now) × (8 * h ≤ length out.old) }
     ensures { Answered (raw_of h (drop 1 body.now)) out.old out.new result }
 {
     if body.len() - 1 < 8 * h {
-        return Answer::Refused(7);
+        return Err(Reason::BytesRunOut.into());
     }
     place(&body[1..], false, h, out);
-    Answer::Drawn { clear: false }
+    Ok(false)
 }
 
 // The other codes: after the colour, the bits of the operations.
@@ -36,33 +36,29 @@ fn coded(
     w: u32,
     h: usize,
     out: &mut [u8],
-) -> Answer
+) -> Result<bool, Refusal>
     requires { (1 ≤ w) × (w ≤ 8) × (h ≤ 200) × (1 ≤ length body.now) × (8 * h ≤ length out.old) }
     ensures { Answered (coded_of second vertical clear w h (drop 1 body.now)) out.old out.new result }
 {
     if body.len() < 2 {
-        return Answer::Refused(7);
+        return Err(Reason::BytesRunOut.into());
     }
     if h == 0 {
-        return Answer::Drawn { clear: clear };
+        return Ok(clear);
     }
     let mut scratch = [0u8; 1600];
-    match paint_bits(body, second, w, 8 * h, &mut scratch) {
-        Made::Refused(n) => Answer::Refused(n),
-        Made::All => {
-            place(&scratch, vertical, h, out);
-            Answer::Drawn { clear: clear }
-        }
-    }
+    paint_bits(body, second, w, 8 * h, &mut scratch)?;
+    place(&scratch, vertical, h, out);
+    Ok(clear)
 }
 
 // One strip body of h rows into the first 8h bytes of `out`, by rows.
-pub fn decode_strip(body: &[u8], h: usize, out: &mut [u8]) -> Answer
+pub fn decode_strip(body: &[u8], h: usize, out: &mut [u8]) -> Result<bool, Refusal>
     requires { (h ≤ 200) × (8 * h ≤ length out.old) }
     ensures { Answered (strip_of h body.now) out.old out.new result }
 {
     if body.len() < 1 {
-        return Answer::Refused(7);
+        return Err(Reason::BytesRunOut.into());
     }
     match kind_of(body[0]) {
         Kind::Raw => raw(body, h, out),
@@ -72,6 +68,6 @@ pub fn decode_strip(body: &[u8], h: usize, out: &mut [u8]) -> Answer
             clear,
             width,
         } => coded(body, second, vertical, clear, width, h, out),
-        Kind::Unknown => Answer::Refused(6),
+        Kind::Unknown => Err(Reason::CodeUnknown.into()),
     }
 }

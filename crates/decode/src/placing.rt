@@ -3,8 +3,6 @@ ghost use Rattle.std.specs.Prelude.{◌≡◌, ◌+◌, ◌*◌, ◌≤◌, ◌<
 ghost use Rattle.number.specs.Buffer.{over};
 ghost use Rattle.strip.specs.Picture.{source_of, up_to, placed};
 
-use number::buffer::copy;
-
 // Row y of a strip whose pixels are made by columns, where the rows above it are done. A column further is h pixels further, so that no pixel
 // costs a division.
 fn row(src: &[u8], h: usize, y: usize, out: &mut [u8])
@@ -15,12 +13,8 @@ fn row(src: &[u8], h: usize, y: usize, out: &mut [u8])
     ensures row_done { take (8 * y + 8) out.new ≡ up_to (λ j. get_or src.now (source_of true h j) 0) (8 * y + 8) }
 {
     let base = 8 * y;
-    let mut c: usize = 0;
-    let mut at = y;
-    while c < 8 {
-        out[base + c] = src[at];
-        at += h;
-        c += 1;
+    for c in 0..8 {
+        out[base + c] = src[c * h + y];
     }
 }
 
@@ -29,10 +23,8 @@ fn columns(src: &[u8], h: usize, out: &mut [u8])
     requires { (h ≤ 200) × (8 * h ≤ length src.now) × (8 * h ≤ length out.old) }
     ensures { out.new ≡ over (placed true h src.now) out.old }
 {
-    let mut y: usize = 0;
-    while y < h {
+    for y in 0..h {
         row(src, h, y, out);
-        y += 1;
     }
 }
 
@@ -41,7 +33,7 @@ fn rows(src: &[u8], h: usize, out: &mut [u8])
     requires { (8 * h ≤ length src.now) × (8 * h ≤ length out.old) }
     ensures { out.new ≡ over (placed false h src.now) out.old }
 {
-    copy(src, 0, 8 * h, out, 0);
+    out[..8 * h].copy_from_slice(&src[..8 * h]);
 }
 
 // The pixels of `src`, by rows, into the first 8h bytes of `out`.

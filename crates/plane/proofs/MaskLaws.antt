@@ -1,12 +1,10 @@
 -- Laws of the rows of a mask strip: an operation, what it gives, and going on from one place to the next.
-use Rattle.std.proofs.Common.{◌≡◌, refl, sym, ap, ap₂, ◌∙◌, subst, Bool, cond, List, [], ◌∷◌, ◌++◌, append-nil, ℕ, zero, suc, ◌+◌, ◌-◌, ◌≤◌, ◌<◌, not-suc-le-zero, add-one, arith, lt-ltb, le-ltb, length, take, drop, replicate, get_or, length-drop, drop_of_length-le, ltb, drop-cons, drop-drop}
+use Rattle.std.proofs.Common.{◌≡◌, refl, sym, ap, ap₂, ◌∙◌, subst, Bool, cond, List, [], ◌∷◌, ◌++◌, append-nil, ℕ, zero, suc, ◌+◌, ◌-◌, ◌≤◌, ◌<◌, not-suc-le-zero, add-one, arith, lt-ltb, le-ltb, length, take, drop, replicate, get_or, length-drop, drop_of_length-le, ltb, drop-cons, drop-drop, Result, Ok, Err}
 use native.Mathlib.Nat.{sub-zero}
-use Rattle.strip.specs.declared.Made.{Made}
-use Rattle.strip.specs.declared.Made.TheVariants.{All}
 use Rattle.strip.specs.Strip.{Strip, refused, values, made_of, onto, prepend, Filled}
 use Rattle.strip.proofs.StripLaws.{prepend-none, prepend-onto, prepend-prepend, made-prepend}
 use Rattle.plane.specs.declared.Rows.{Rows}
-use Rattle.plane.specs.declared.Rows.TheVariants.{Literals, Copies, Refuse}
+use Rattle.plane.specs.declared.Rows.TheVariants.{Literals, Copies}
 use Rattle.plane.specs.Mask.{Pending, literals, copies, rows_in, pending_of, rows_of, RowsAt}
 
 pub rows_done : (t : List ℕ) (n : ℕ) (p : Pending) → n ≡ 0 → rows_of t n p ≡ values []
@@ -81,7 +79,7 @@ rows_short (suc n) (suc k) (b ∷ t) le few = ap (onto b) (rows_short n k t (ome
 -- ---- the operation at a place
 
 module _ (s : List ℕ) (at k : ℕ) (pos : 1 ≤ k) where
-  pub at_end : length s ≤ at → RowsAt s at k (Refuse 7)
+  pub at_end : length s ≤ at → RowsAt s at k (Err 7)
   at_end h = rows_end (drop at s) k (literals 0) pos (drop_of_length-le s h)
 
   module _ (here : at < length s) where
@@ -97,13 +95,13 @@ module _ (s : List ℕ) (at k : ℕ) (pos : 1 ≤ k) where
     size : length u ≡ length s - (at + 1)
     size = length-drop (at + 1) s
 
-    pub at_past-literals : op < 0x80 → k < op → RowsAt s at k (Refuse 8)
+    pub at_past-literals : op < 0x80 → k < op → RowsAt s at k (Err 8)
     at_past-literals low h = past-literals (drop at s) u op starts k pos low h
 
-    pub at_short-literals : op < 0x80 → op ≤ k → length s - at - 1 < op → RowsAt s at k (Refuse 7)
+    pub at_short-literals : op < 0x80 → op ≤ k → length s - at - 1 < op → RowsAt s at k (Err 7)
     at_short-literals low le few = asks_literals (drop at s) u op starts k pos low le ∙ rows_short op k u le (omega (arith, size))
 
-    pub at_literals : op < 0x80 → op ≤ k → op ≤ length s - at - 1 → RowsAt s at k (Literals op)
+    pub at_literals : op < 0x80 → op ≤ k → op ≤ length s - at - 1 → RowsAt s at k (Ok (Literals op))
     at_literals low le room = (
       le,
       omega arith,
@@ -112,15 +110,15 @@ module _ (s : List ℕ) (at k : ℕ) (pos : 1 ≤ k) where
           ∙ ap (λ (t : List ℕ). prepend (take op u) (rows_of t (k - op) (literals 0))) (drop-drop op (at + 1) s),
     )
 
-    pub at_past-copies : 0x80 ≤ op → k < op - 0x80 → RowsAt s at k (Refuse 8)
+    pub at_past-copies : 0x80 ≤ op → k < op - 0x80 → RowsAt s at k (Err 8)
     at_past-copies high h = past-copies (drop at s) u op starts k pos high h
 
-    pub at_short-copies : 0x80 ≤ op → op - 0x80 ≤ k → length s - at - 1 < 1 → RowsAt s at k (Refuse 7)
+    pub at_short-copies : 0x80 ≤ op → op - 0x80 ≤ k → length s - at - 1 < 1 → RowsAt s at k (Err 7)
     at_short-copies high le few =
         let end : length s ≤ at + 1 = omega arith in
         asks_copies (drop at s) u op starts k pos high le ∙ rows_end u k (copies (op - 0x80)) pos (drop_of_length-le s end)
 
-    pub at_copies : 0x80 ≤ op → op - 0x80 ≤ k → 1 ≤ length s - at - 1 → RowsAt s at k (Copies (op - 0x80))
+    pub at_copies : 0x80 ≤ op → op - 0x80 ≤ k → 1 ≤ length s - at - 1 → RowsAt s at k (Ok (Copies (op - 0x80)))
     at_copies high le room =
         let next : at + 1 + 1 ≡ at + 2 = omega arith in
         let b = get_or s (at + 1) 0 in (
@@ -131,7 +129,7 @@ module _ (s : List ℕ) (at k : ℕ) (pos : 1 ≤ k) where
               ∙ ap (λ (j : ℕ). prepend (replicate (op - 0x80) b) (rows_of (drop j s) (k - (op - 0x80)) (literals 0))) next,
         )
 
-pub rows_as : (s : List ℕ) (at k : ℕ) {r r' : Rows} → r ≡ r' → RowsAt s at k r → RowsAt s at k r'
+pub rows_as : (s : List ℕ) (at k : ℕ) {r r' : Result Rows ℕ} → r ≡ r' → RowsAt s at k r → RowsAt s at k r'
 rows_as s at k e h = subst (λ r. RowsAt s at k r) e h
 
 -- ---- going on from the bytes t to the bytes u, past the rows xs
@@ -147,12 +145,12 @@ module _ (t u xs : List ℕ) (k n : ℕ) (gives : rows_of t k (literals 0) ≡ p
       ∙ prepend-prepend (take i out) xs (rows_of u (k - n) (literals 0))
       ∙ ap₂ (λ (q : List ℕ) (j : ℕ). prepend q (rows_of u j (literals 0))) (sym stored) left
 
-  pub tested_on : (m : Made) → m ≡ made_of (rows_of t k (literals 0)) → m ≡ made_of (rows_of u (k - n) (literals 0))
+  pub tested_on : (m : Result (Unit {0}) ℕ) → m ≡ made_of (rows_of t k (literals 0)) → m ≡ made_of (rows_of u (k - n) (literals 0))
   tested_on m so_far = so_far ∙ ap made_of gives ∙ made-prepend xs (rows_of u (k - n) (literals 0))
 
 pub rows_all : (t : List ℕ) (p : Pending) (i h : ℕ) (out d : List ℕ) (x : Strip) → i ≡ h → x ≡ prepend (take i out) (rows_of t (h - i) p)
     → drop i out ≡ drop i d
-    → Filled h x d out All
+    → Filled h x d out (Ok tt)
 rows_all t p i h out d x e f g = (
   f
       ∙ ap (prepend (take i out)) (rows_done t (h - i) p (omega arith))

@@ -1,8 +1,8 @@
 -- One strip of masks (document 01, "Strips of masks"): what its bytes mean, its rows or the number of its refusal, 7 or 8.
-use Rattle.std.specs.Prelude.{◌≡◌, cond, List, [], ◌∷◌, ℕ, zero, suc, ◌+◌, ◌-◌, ◌≤◌, length, get_or, take, drop, replicate, ltb}
+use Rattle.std.specs.Prelude.{◌≡◌, cond, List, [], ◌∷◌, ℕ, zero, suc, ◌+◌, ◌-◌, ◌≤◌, length, get_or, take, drop, replicate, ltb, Result, Ok, Err}
 use Rattle.strip.specs.Strip.{Strip, refused, values, onto, prepend}
 use Rattle.plane.specs.declared.Rows.{Rows}
-use Rattle.plane.specs.declared.Rows.TheVariants.{Literals, Copies, Refuse}
+use Rattle.plane.specs.declared.Rows.TheVariants.{Literals, Copies}
 
 -- what is pending: so many literal rows (0: an operation comes next), or so many copies of the next byte
 pub data Pending : Type 0 where
@@ -28,11 +28,11 @@ rows_of (op ∷ bytes) (suc todo) (literals zero) = cond (ltb (suc todo) (rows_i
 -- ---- for the proofs: no public promise rests on what follows
 
 -- the answer to the operation at a place, with k rows to go: what the bytes from there on give
-abbrev pub RowsAt : List ℕ → (at k : ℕ) → Rows → Type 0
-RowsAt s at k (Literals n) =
+abbrev pub RowsAt : List ℕ → (at k : ℕ) → Result Rows ℕ → Type 0
+RowsAt s at k (Ok (Literals n)) =
     (n ≤ k) × (at + 1 + n ≤ length s)
     × (rows_of (drop at s) k (literals 0) ≡ prepend (take n (drop (at + 1) s)) (rows_of (drop (at + 1 + n) s) (k - n) (literals 0)))
-RowsAt s at k (Copies n) =
+RowsAt s at k (Ok (Copies n)) =
     (n ≤ k) × (at + 2 ≤ length s)
     × (rows_of (drop at s) k (literals 0) ≡ prepend (replicate n (get_or s (at + 1) 0)) (rows_of (drop (at + 2) s) (k - n) (literals 0)))
-RowsAt s at k (Refuse m) = rows_of (drop at s) k (literals 0) ≡ refused m
+RowsAt s at k (Err m) = rows_of (drop at s) k (literals 0) ≡ refused m

@@ -1,41 +1,14 @@
 -- Laws of a strip's code and of where its pixels lie.
-use Rattle.std.proofs.Common.{◌≡◌, ℕ, zero, suc, ◌+◌, ◌-◌, ◌*◌, ◌/◌, ◌%◌, ◌<◌, ◌≤◌, Bool, true, false, cond, ltb, leb, List, [], ◌∷◌, ◌++◌, length, get_or, take, drop, set, sym, refl, ap, ◌∙◌, subst, ap₂, le_of_eq, mul-le-mul_right, add-mul, add-one, arith, length-append, length-drop, take_all, get_or-take, take-suc, take-suc-set, ltb-false, ltb-true, le-ltb, lt-ltb, le-leb, leb-false, leb-true}
-use borrow.Author.Tests.{lt-leb}
+use Rattle.std.proofs.Common.{◌≡◌, ℕ, zero, suc, ◌+◌, ◌-◌, ◌*◌, ◌/◌, ◌%◌, ◌<◌, ◌≤◌, Bool, true, false, cond, ltb, List, [], ◌∷◌, ◌++◌, length, get_or, take, drop, set, sym, refl, ap, ◌∙◌, subst, ap₂, le_of_eq, mul-le-mul_right, add-one, arith, length-append, length-drop, take_all, get_or-take, take-suc, take-suc-set, ltb-false, ltb-true, le-ltb, lt-ltb, Result, Ok, Err}
 use lib.ListN.{get_or-append}
 use lib.Seq.{get_or_at}
-use Rattle.strip.specs.declared.Answer.{Answer}
-use Rattle.strip.specs.declared.Answer.TheVariants.{Drawn, Refused}
 use Rattle.strip.specs.declared.Kind.{Kind}
-use Rattle.number.proofs.BoolLaws.{both}
 use Rattle.number.specs.Buffer.{over}
 use Rattle.number.proofs.BufferLaws.{over_of}
 use Rattle.bits.specs.Bits.{bits_of}
 use Rattle.strip.specs.Strip.{decode}
-use Rattle.strip.specs.Picture.{five_from, source_of, up_to, Width, placed, Picture, refusal, picture, raw_of, coded_of, shown}
+use Rattle.strip.specs.Picture.{source_of, up_to, Width, placed, Picture, refusal, picture, raw_of, coded_of, shown}
 use Rattle.strip.specs.Picture.{strip_of, by_kind, kind_of, Answered}
-
-pub five-from : (low code : ℕ) → five_from low code ≡ true → (low ≤ code) × (code ≤ low + 4)
-unfolding five_from
-five-from low code e =
-    let w = both (leb low code) (leb code (low + 4)) e in
-    (leb-true low code w.0, leb-true code (low + 4) w.1)
-
--- the two tests of the code, from how far it stands behind the first of the five
-pub five-below : (low code : ℕ) → code < low → false ≡ five_from low code
-unfolding five_from
-five-below low code lt = rw (lt-leb low code lt)
-
-pub five-on : (low code : ℕ) → low ≤ code → leb (code - low) 4 ≡ five_from low code
-unfolding five_from
-five-on low code le = rw (le-leb low code le) (go (leb (code - low) 4) refl)
-  where
-    go : (t : Bool) → leb (code - low) 4 ≡ t → leb (code - low) 4 ≡ leb code (low + 4)
-    go true e =
-        let h = leb-true (code - low) 4 e in
-        e ∙ sym (le-leb code (low + 4) (omega arith))
-    go false e =
-        let h = leb-false (code - low) 4 e in
-        e ∙ sym (lt-leb code (low + 4) (omega arith))
 
 -- a strip made by columns has pixel c of row y after c columns and y rows
 pub source_column : (h y c : ℕ) → c < 8 → source_of true h (8 * y + c) ≡ c * h + y
@@ -48,11 +21,6 @@ pub column_below : (h y c : ℕ) → c < 8 → y < h → c * h + y < 8 * h
 column_below h y c lt below =
     let m : c * h ≤ 7 * h = mul-le-mul_right h (omega arith) in
     omega arith
-
-pub next_column : (h y c at : ℕ) → at ≡ c * h + y → at + h ≡ (c + 1) * h + y
-next_column h y c at e =
-    let m : (c + 1) * h ≡ c * h + 1 * h = add-mul c 1 h in
-    omega (arith, m)
 
 pub length-up_to : (f : ℕ → ℕ) (n : ℕ) → length (up_to f n) ≡ n
 length-up_to f zero = refl
@@ -89,13 +57,13 @@ placed-over vertical h xs out d front back = over_of _ out d (8 * h) (length-up_
 
 -- ---- answers
 
-pub answered-no : (x : Picture) (d : List ℕ) (n : ℕ) → x ≡ refusal n → Answered x d d (Refused n)
-answered-no x d n e = subst (λ q. Answered q d d (Refused n)) (sym e) (refl, refl)
+pub answered-no : (x : Picture) (d : List ℕ) (n : ℕ) → x ≡ refusal n → Answered x d d (Err n)
+answered-no x d n e = subst (λ q. Answered q d d (Err n)) (sym e) (refl, refl)
 
-pub answered_yes : (x : Picture) (clear : Bool) (px d out : List ℕ) → x ≡ picture clear px → out ≡ over px d → Answered x d out (Drawn clear)
-answered_yes x clear px d out e f = subst (λ q. Answered q d out (Drawn clear)) (sym e) (refl, f)
+pub answered_yes : (x : Picture) (clear : Bool) (px d out : List ℕ) → x ≡ picture clear px → out ≡ over px d → Answered x d out (Ok clear)
+answered_yes x clear px d out e f = subst (λ q. Answered q d out (Ok clear)) (sym e) (refl, f)
 
-pub answered_from : (d out : List ℕ) (r : Answer) {x y : Picture} → x ≡ y → Answered y d out r → Answered x d out r
+pub answered_from : (d out : List ℕ) (r : Result Bool ℕ) {x y : Picture} → x ≡ y → Answered y d out r → Answered x d out r
 answered_from d out r e h = subst (λ q. Answered q d out r) (sym e) h
 
 pub told_width : {r r' : Kind} → r ≡ r' → Width r → Width r'
@@ -128,7 +96,7 @@ module _ (second vertical clear : Bool) (w h : ℕ) where
   coded_some (a ∷ b ∷ t) lt = refl
 
   -- a strip of no rows has no pixels
-  pub coded_empty : (s d : List ℕ) → 2 ≤ length s → h ≡ 0 → Answered (coded_of second vertical clear w h (drop 1 s)) d d (Drawn clear)
+  pub coded_empty : (s d : List ℕ) → 2 ≤ length s → h ≡ 0 → Answered (coded_of second vertical clear w h (drop 1 s)) d d (Ok clear)
   unfolding decode placed over
   coded_empty s d le e =
       let z : 8 * h ≡ 0 = omega arith in

@@ -1,12 +1,11 @@
 -- Laws of places in a strip: what an operation, many keeps and a refusal come to.
-use Rattle.std.proofs.Common.{◌≡◌, ℕ, zero, suc, ◌+◌, ◌-◌, ◌%◌, ◌<◌, ◌≤◌, Bool, true, false, eqb, List, ◌∷◌, ◌++◌, length, replicate, sym, refl, ap, ◌∙◌, true≢false, arith, eqb-true}
+use Rattle.std.proofs.Common.{◌≡◌, ℕ, zero, suc, ◌+◌, ◌-◌, ◌%◌, ◌<◌, ◌≤◌, Bool, true, false, eqb, List, ◌∷◌, ◌++◌, length, replicate, sym, refl, ap, ◌∙◌, true≢false, arith, eqb-true, Ok}
 use Rattle.bits.specs.declared.Cursor.{Cursor}
 use Rattle.bits.specs.Bits.{low_bits, Pull, short, got, pull, rest, Held, Full}
 use Rattle.bits.specs.Reader.{Hands, One}
 use Rattle.bits.proofs.BitLaws.{pull_is, pull-long, pull-short, pull-zeros, got_tail}
 use Rattle.bits.proofs.CursorLaws.{all_held}
 use Rattle.strip.specs.declared.State.{State}
-use Rattle.strip.specs.declared.Next.TheVariants.{Go}
 use Rattle.strip.specs.Strip.{Move, refuse, go, run_pixels, op_of, refused, prepend, decode}
 use Rattle.strip.specs.Place.{is_run, run_ahead, ahead, Gives, Stepped, Leads, kept_by}
 use Rattle.strip.proofs.StripLaws.{prepend-none, prepend-prepend, decode_op, decode-past, decode-refuse}
@@ -72,11 +71,11 @@ none_stepped second w total s st left full h =
     (op_none second w st.colour st.step (rest s st.cur) (rw (all_held s st.cur full (omega arith)) h))
 
 module _ (second : Bool) (w total : ℕ) (s : List ℕ) (st : State) (left : st.i < total) (held : Held s st.cur) where
-  pub keep_stepped : (to : Cursor) → Hands 1 0 st.cur to → Stepped second w total s st (Go (kept_by 1 to st))
+  pub keep_stepped : (to : Cursor) → Hands 1 0 st.cur to → Stepped second w total s st (Ok (kept_by 1 to st))
   keep_stepped to none = (omega arith, omega arith, none.held s held, gives_kept second w total s st 1 to none (omega arith))
 
   pub op_stepped : (to : State) → Leads second w st to → One (rest s st.cur) → run_ahead second (rest s st.cur) ≡ false → Stepped second w total s st
-      (Go to)
+      (Ok to)
   op_stepped to o one no_run =
       let on = o.on in
       (omega arith, omega arith, o.held s held, gives_op second w total s st to 0 (o.leads s one no_run) (omega arith) (omega arith))
@@ -125,7 +124,7 @@ module _ (w total : ℕ) (s : List ℕ) (st : State) (left : st.i < total) (is-r
     run-past_stepped h = runs_past true w total s st (n - 1) st.colour st.step (rest s two) left runs (omega arith)
 
     pub run_stepped : Held s st.cur → st.i + n ≤ total → Stepped true w total s st
-        (Go (record { i = st.i + n; colour = st.colour; step = st.step; cur = two }))
+        (Ok (record { i = st.i + n; colour = st.colour; step = st.step; cur = two }))
     run_stepped held h =
         let to : State = record { i = st.i + n; colour = st.colour; step = st.step; cur = two } in
         (omega arith, h, eight.held s (five.held s held), gives_op true w total s st to (n - 1) runs (omega arith) (omega arith))

@@ -1,13 +1,11 @@
 -- A strip's code, where its pixels lie, and a whole strip body (document 01, "Strips of pixels").
-use Rattle.std.specs.Prelude.{◌≡◌, ℕ, zero, suc, ◌+◌, ◌-◌, ◌*◌, ◌/◌, ◌%◌, ◌≤◌, ◌==◌, nat_le, nat_lt}
+use Rattle.std.specs.Prelude.{◌≡◌, ℕ, zero, suc, ◌+◌, ◌-◌, ◌*◌, ◌/◌, ◌%◌, ◌≤◌, ◌==◌, nat_le, nat_lt, Result, Ok, Err}
 use Rattle.std.specs.Prelude.{Bool, true, false, cond, ◌&&◌, List, [], ◌∷◌, ◌++◌, length, slice_index}
 use Rattle.number.specs.Buffer.{over}
 use Rattle.bits.specs.Bits.{bits_of}
 use Rattle.strip.specs.Strip.{Strip, refused, values, decode}
 use Rattle.strip.specs.declared.Kind.{Kind}
 use Rattle.strip.specs.declared.Kind.TheVariants.{Raw, Coded, Unknown}
-use Rattle.strip.specs.declared.Answer.{Answer}
-use Rattle.strip.specs.declared.Answer.TheVariants.{Drawn, Refused}
 
 -- the code is one of the five from low on
 unfoldable pub five_from : (low code : ℕ) → Bool
@@ -81,13 +79,13 @@ Width (Coded second vertical clear width) = (4 ≤ width) × (width ≤ 8)
 Width Unknown = Unit {0}
 
 -- the code's answer to a strip, and the buffer d after it: a refusal changes nothing
-abbrev pub answer_of : Picture → Answer
-answer_of (refusal n) = Refused n
-answer_of (picture clear pixels) = Drawn clear
+abbrev pub answer_of : Picture → Result Bool ℕ
+answer_of (refusal n) = Err n
+answer_of (picture clear pixels) = Ok clear
 
 abbrev pub drawn_over : Picture → List ℕ → List ℕ
 drawn_over (refusal n) d = d
 drawn_over (picture clear pixels) d = over pixels d
 
-abbrev pub Answered : Picture → List ℕ → List ℕ → Answer → Type 0
+abbrev pub Answered : Picture → List ℕ → List ℕ → Result Bool ℕ → Type 0
 Answered p d e r = (r ≡ answer_of p) × (e ≡ drawn_over p d)

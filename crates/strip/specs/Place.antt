@@ -1,13 +1,11 @@
 -- A place in the decode of a strip, what comes from it on, and what stepping from place to place comes to. A step may take many
 -- operations at once: that what it gives is the decode's is said here, once for both methods.
 -- For the proofs: no public promise rests on what this page says.
-use Rattle.std.specs.Prelude.{◌≡◌, ℕ, ◌+◌, ◌-◌, ◌/◌, ◌<◌, ◌≤◌, Bool, false, cond, ◌&&◌, List, replicate, ◌==◌}
+use Rattle.std.specs.Prelude.{◌≡◌, ℕ, ◌+◌, ◌-◌, ◌/◌, ◌<◌, ◌≤◌, Bool, false, cond, ◌&&◌, List, replicate, ◌==◌, Result, Ok, Err}
 use Rattle.bits.specs.declared.Cursor.{Cursor}
 use Rattle.bits.specs.Bits.{Pull, short, got, pull, rest, Held}
 use Rattle.bits.specs.Reader.{One}
 use Rattle.strip.specs.declared.State.{State}
-use Rattle.strip.specs.declared.Next.{Next}
-use Rattle.strip.specs.declared.Next.TheVariants.{Go, Refuse}
 use Rattle.strip.specs.Strip.{refuse, go, op_of, Strip, refused, prepend, decode}
 
 -- ---- the bits ahead of a place
@@ -44,9 +42,9 @@ abbrev pub Gives : Bool → (w total : ℕ) → List ℕ → (st to : State) →
 Gives second w total s st to = ahead second w total s st ≡ prepend (replicate (to.i - st.i) to.colour) (ahead second w total s to)
 
 -- the answer to one step
-abbrev pub Stepped : Bool → (w total : ℕ) → List ℕ → State → Next → Type 0
-Stepped second w total s st (Go to) = (st.i < to.i) × (to.i ≤ total) × Held s to.cur × Gives second w total s st to
-Stepped second w total s st (Refuse n) = ahead second w total s st ≡ refused n
+abbrev pub Stepped : Bool → (w total : ℕ) → List ℕ → State → Result State ℕ → Type 0
+Stepped second w total s st (Ok to) = (st.i < to.i) × (to.i ≤ total) × Held s to.cur × Gives second w total s st to
+Stepped second w total s st (Err n) = ahead second w total s st ≡ refused n
 
 -- the operation at st gives one pixel and leads to `to`
 abbrev pub LeadsTo : Bool → (w : ℕ) → List ℕ → (st to : State) → Type 0

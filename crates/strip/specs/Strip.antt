@@ -1,9 +1,7 @@
 -- The two methods (document 01, "Strips of pixels"): what the bits of a strip mean, its pixels in the order in which they are made or the
 -- number of its refusal, 7 or 8.
-use Rattle.std.specs.Prelude.{◌≡◌, ℕ, zero, suc, ◌+◌, ◌-◌, ◌%◌, Bool, true, false, cond, List, [], ◌∷◌, ◌++◌, take, drop, ◌==◌, nat_le}
+use Rattle.std.specs.Prelude.{◌≡◌, ℕ, zero, suc, ◌+◌, ◌-◌, ◌%◌, Bool, true, false, cond, List, [], ◌∷◌, ◌++◌, take, drop, ◌==◌, nat_le, Result, Ok, Err}
 use Rattle.bits.specs.Bits.{Pull, short, got, pull}
-use Rattle.strip.specs.declared.Made.{Made}
-use Rattle.strip.specs.declared.Made.TheVariants.{All, Refused}
 
 -- a colour is a byte: sums and differences are modulo 256
 abbrev pub plus : ℕ → ℕ → ℕ
@@ -89,11 +87,11 @@ decode second width (suc todo) pending colour step bits =
 -- ---- for the proofs: no public promise rests on what follows
 
 -- what a decode comes to without its values
-abbrev pub made_of : Strip → Made
-made_of (refused n) = Refused n
-made_of (values xs) = All
+abbrev pub made_of : Strip → Result (Unit {0}) ℕ
+made_of (refused n) = Err n
+made_of (values xs) = Ok tt
 
 -- the answer r to a decode x of n values into a buffer d, which is e after
-abbrev pub Filled : ℕ → Strip → List ℕ → List ℕ → Made → Type 0
-Filled n x d e All = (x ≡ values (take n e)) × (drop n e ≡ drop n d)
-Filled n x d e (Refused r) = x ≡ refused r
+abbrev pub Filled : ℕ → Strip → List ℕ → List ℕ → Result (Unit {0}) ℕ → Type 0
+Filled n x d e (Ok tt) = (x ≡ values (take n e)) × (drop n e ≡ drop n d)
+Filled n x d e (Err r) = x ≡ refused r

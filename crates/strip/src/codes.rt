@@ -1,57 +1,36 @@
 // The strip codes, and what each says of its strip.
-ghost use Rattle.std.specs.Prelude.{◌≡◌, ◌+◌, ◌-◌, if◌then◌else◌};
-ghost use Rattle.strip.specs.Picture.{five_from, kind_of, Width};
+ghost use Rattle.std.specs.Prelude.{◌≡◌};
+ghost use Rattle.strip.specs.Picture.{kind_of, Width};
 
 use crate::Kind;
 
-// Whether the code is one of the five from `low` on.
-fn five(low: u8, code: u8) -> bool
-    ensures { result ≡ five_from low code }
+// A strip with this many index bits.
+fn coded(second: bool, vertical: bool, clear: bool, width: u8) -> Kind
+    ensures { result ≡ Kind.Coded second vertical clear width }
 {
-    if code < low {
-        return false;
-    }
-    code - low <= 4
-}
-
-// The five codes from `low` on, from which `less` is subtracted for the index bits; another code is what `other` says.
-fn family(
-    low: u8,
-    less: u8,
-    second: bool,
-    vertical: bool,
-    clear: bool,
-    code: u8,
-    other: Kind,
-) -> Kind
-    requires { (low ≡ less + 4) × Width other }
-    ensures { (result ≡ (if five_from low code then Kind.Coded second vertical clear (code - less) else other)) × Width result }
-{
-    if five(low, code) {
-        Kind::Coded {
-            second,
-            vertical,
-            clear,
-            width: (code - less) as u32,
-        }
-    } else {
-        other
+    Kind::Coded {
+        second,
+        vertical,
+        clear,
+        width: u32::from(width),
     }
 }
 
+// The codes stand in families of five, whose index bits are 4 to 8.
+#[tactic(auto, unfolding(crate::specs::Picture::kind_of, crate::specs::Picture::five_from))]
 pub fn kind_of(code: u8) -> Kind
     ensures { (result ≡ kind_of code) × Width result }
 {
-    if code == 0x01 {
-        return Kind::Raw;
+    match code {
+        0x01 => Kind::Raw,
+        0x0E..=0x12 => coded(false, true, false, code - 0x0A),
+        0x18..=0x1C => coded(false, false, false, code - 0x14),
+        0x22..=0x26 => coded(false, true, true, code - 0x1E),
+        0x2C..=0x30 => coded(false, false, true, code - 0x28),
+        0x40..=0x44 => coded(true, false, false, code - 0x3C),
+        0x54..=0x58 => coded(true, false, true, code - 0x50),
+        0x68..=0x6C => coded(true, false, true, code - 0x64),
+        0x7C..=0x80 => coded(true, false, false, code - 0x78),
+        _ => Kind::Unknown,
     }
-    let k = Kind::Unknown;
-    let k = family(0x7C, 0x78, true, false, false, code, k);
-    let k = family(0x68, 0x64, true, false, true, code, k);
-    let k = family(0x54, 0x50, true, false, true, code, k);
-    let k = family(0x40, 0x3C, true, false, false, code, k);
-    let k = family(0x2C, 0x28, false, false, true, code, k);
-    let k = family(0x22, 0x1E, false, true, true, code, k);
-    let k = family(0x18, 0x14, false, false, false, code, k);
-    family(0x0E, 0x0A, false, true, false, code, k)
 }

@@ -8,7 +8,7 @@ pub mod operations;
 use bits::Cursor;
 
 // A place in a strip: i pixels are made, the last of them of this colour, and the operations go on at `cur`.
-#[derive(Clone, Copy)]
+#[derive(Clone, Copy, Debug, PartialEq, Eq)]
 pub struct State {
     pub i: usize,
     pub colour: u8,
@@ -16,22 +16,8 @@ pub struct State {
     pub cur: Cursor,
 }
 
-// What going on from a place comes to.
-#[derive(Clone, Copy)]
-pub enum Next {
-    Go(State),
-    Refuse(u8),
-}
-
-// What filling a buffer comes to.
-#[derive(Clone, Copy)]
-pub enum Made {
-    All,
-    Refused(u8),
-}
-
 // What a strip's code says of it.
-#[derive(Clone, Copy)]
+#[derive(Clone, Copy, Debug, PartialEq, Eq)]
 pub enum Kind {
     Raw,
     Coded {
@@ -41,11 +27,4 @@ pub enum Kind {
         width: u32,
     },
     Unknown,
-}
-
-// What reading a strip comes to: `clear` says whether its code is a transparent one.
-#[derive(Clone, Copy)]
-pub enum Answer {
-    Drawn { clear: bool },
-    Refused(u8),
 }

@@ -6,8 +6,9 @@ ghost use Rattle.bits.specs.Reader.{One};
 ghost use Rattle.strip.specs.Strip.{plus, minus, run_pixels};
 ghost use Rattle.strip.specs.Place.{op_length, Whole, run_ahead, kept_by, Leads, Cut, Stepped, Fits};
 
-use crate::{Next, State};
+use crate::State;
 use bits::Cursor;
+use refusal::{Reason, Refusal};
 use std::num::{wrapping_add_u8, wrapping_sub_u8};
 
 // One of two values. A value that is chosen so needs no branch, which a picture's operations would make unpredictable.
@@ -35,10 +36,11 @@ fn length_of(second: bool, w: u32, more: bool) -> u32
     requires { w ≤ 8 }
     ensures { (result ≡ op_length second w more) × (result ≤ 10) }
 {
-    if !more {
-        return 2 + w;
+    match (more, second) {
+        (false, _) => 2 + w,
+        (true, true) => 5,
+        (true, false) => 3,
     }
-    if second { 5 } else { 3 }
 }
 
 // Whether a run of the second method stands ahead: `11` and d = 4, which from bit 0 up is 19.
@@ -54,10 +56,7 @@ fn run_left(second: bool, cur: Cursor) -> bool
     requires { cur.bits ≤ 63 }
     ensures { (s : List ℕ) → Full s cur → result ≡ run_ahead second (rest s cur) }
 {
-    if !cur.holds(5) {
-        return false;
-    }
-    run_at(second, cur)
+    cur.holds(5) && run_at(second, cur)
 }
 
 // `10` a new index, and the step is 1 again; `110` and `111` of the first method: the step, negated for `111`, is subtracted.
@@ -118,9 +117,8 @@ pub fn kept(st: State, k: u32, next: Cursor) -> State
 {
     State {
         i: st.i + k as usize,
-        colour: st.colour,
-        step: st.step,
         cur: next,
+        ..st
     }
 }
 
@@ -129,31 +127,27 @@ fn whole(second: bool, w: u32, cur: Cursor) -> bool
     requires { (w ≤ 8) × (cur.bits ≤ 63) }
     ensures { (result ≡ true → Whole second w cur) × (result ≡ false → (s : List ℕ) → Full s cur → One (rest s cur) → Cut second w s cur) }
 {
-    if !cur.holds(2) {
-        return false;
-    }
-    let more = cur.take(2).value / 2 == 1;
-    cur.holds(length_of(second, w, more))
+    cur.holds(2) && cur.holds(length_of(second, w, cur.take(2).value / 2 == 1))
 }
 
 // One operation that isn't a run, in a strip of `total` pixels.
-fn one(second: bool, w: u32, total: usize, st: State) -> Next
+fn one(second: bool, w: u32, total: usize, st: State) -> Result<State, Refusal>
     requires { (w ≤ 8) × (st.cur.bits ≤ 63) × (st.i < total) × (total ≤ 1600) }
     ensures { (s : List ℕ) → Held s st.cur → Full s st.cur → run_ahead second (rest s st.cur) ≡ false → Stepped second w total s st result }
 {
     let cur = st.cur;
     if !cur.holds(1) {
-        return Next::Refuse(7);
+        return Err(Reason::BytesRunOut.into());
     }
     let first = cur.take(1);
     let next = first.next;
     if first.value == 0 {
-        return Next::Go(kept(st, 1, next));
+        return Ok(kept(st, 1, next));
     }
     if !whole(second, w, cur) {
-        return Next::Refuse(7);
+        return Err(Reason::BytesRunOut.into());
     }
-    Next::Go(op(second, w, st))
+    Ok(op(second, w, st))
 }
 
 // How many pixels a run of n gives: 0 means 256.
@@ -161,37 +155,32 @@ pub fn run_pixels(n: u64) -> usize
     requires { n < 256 }
     ensures { (result ≡ run_pixels n) × (1 ≤ result) × (result ≤ 256) }
 {
-    if n == 0 {
-        return 256;
-    }
-    n as usize
+    if n == 0 { 256 } else { n as usize }
 }
 
 // A run, in a strip of `total` pixels: its number is looked for before its pixels are measured.
-fn run(total: usize, st: State) -> Next
+fn run(total: usize, st: State) -> Result<State, Refusal>
     requires { (st.cur.bits ≤ 63) × (st.i < total) × (total ≤ 1600) }
     ensures { (w : ℕ) (s : List ℕ) → Held s st.cur → Full s st.cur → run_ahead true (rest s st.cur) ≡ true → Stepped true w total s st result }
 {
     let cur = st.cur;
     if !cur.holds(13) {
-        return Next::Refuse(7);
+        return Err(Reason::BytesRunOut.into());
     }
     let number = cur.take(5).next.take(8);
     let to = st.i + run_pixels(number.value);
     if total < to {
-        return Next::Refuse(8);
+        return Err(Reason::PastTheStrip.into());
     }
-    let next = number.next;
-    Next::Go(State {
+    Ok(State {
         i: to,
-        colour: st.colour,
-        step: st.step,
-        cur: next,
+        cur: number.next,
+        ..st
     })
 }
 
 // The next operation, in a strip of `total` pixels.
-pub fn step(second: bool, w: u32, total: usize, st: State) -> Next
+pub fn step(second: bool, w: u32, total: usize, st: State) -> Result<State, Refusal>
     requires { (w ≤ 8) × (st.cur.bits ≤ 63) × (st.i < total) × (total ≤ 1600) }
     ensures { (s : List ℕ) → Held s st.cur → Full s st.cur → Stepped second w total s st result }
 {
@@ -208,13 +197,9 @@ pub fn refill(body: &[u8], st: State) -> State
     ensures { (result.i ≡ st.i) × (result.colour ≡ st.colour) × (result.step ≡ st.step) × Held body.now result.cur
         × Full body.now result.cur × (rest body.now result.cur ≡ rest body.now st.cur) }
 {
-    let cur = st.cur;
-    let more = cur.refill(body);
     State {
-        i: st.i,
-        colour: st.colour,
-        step: st.step,
-        cur: more,
+        cur: st.cur.refill(body),
+        ..st
     }
 }
 
@@ -223,12 +208,5 @@ pub fn fits(second: bool, total: usize, bits: u32, pixels: usize, st: State) -> 
     requires { (5 ≤ bits) × (st.cur.bits ≤ 63) × (st.i ≤ total) × (total ≤ 1600) × (pixels ≤ 100) }
     ensures { result ≡ true → Fits second total bits pixels st }
 {
-    let cur = st.cur;
-    if !cur.holds(bits) {
-        return false;
-    }
-    if run_at(second, cur) {
-        return false;
-    }
-    st.i + pixels <= total
+    st.cur.holds(bits) && !run_at(second, st.cur) && st.i + pixels <= total
 }

@@ -1,5 +1,5 @@
 -- Laws of the test's leaps: past the rows of a view, past 32 keeps, past a run, from spot to spot, and on to the careful test.
-use Rattle.std.proofs.Common.{◌≡◌, refl, sym, ap, ap₂, ◌∙◌, subst, Bool, true, false, List, ◌++◌, ℕ, zero, suc, ◌+◌, ◌-◌, ◌*◌, ◌/◌, ◌%◌, ◌^◌, ◌≤◌, ◌<◌, arith, get_or, set, length, drop, length-drop, drop-drop, get_or-set_same, get_or-set_other, leb-true, leb-false, leb}
+use Rattle.std.proofs.Common.{◌≡◌, refl, sym, ap, ap₂, ◌∙◌, subst, Bool, true, false, List, ◌++◌, ℕ, zero, suc, ◌+◌, ◌-◌, ◌*◌, ◌/◌, ◌%◌, ◌^◌, ◌≤◌, ◌<◌, arith, get_or, set, length, drop, length-drop, drop-drop, get_or-set_same, get_or-set_other, leb-true, leb-false, leb, Result, Err}
 use mathlib.Core.Logic.{by_cases}
 use native.Mathlib.Decide.{ℕ_discrete}
 use Rattle.bits.specs.declared.Cursor.{Cursor}
@@ -8,7 +8,6 @@ use Rattle.bits.specs.Bits.{got, pull, low_bits, bits_of, rest, Full, Views}
 use Rattle.bits.proofs.BitLaws.{pull-low, pull_is, pull-drop, low-drop}
 use Rattle.bits.proofs.CursorLaws.{bits-long, drop-bytes}
 use Rattle.strip.specs.declared.State.{State}
-use Rattle.strip.specs.declared.Made.{Made}
 use Rattle.strip.specs.Strip.{Move, refuse, go, op_of, measured, run_pixels}
 use Rattle.strip.proofs.StripLaws.{measured-fits}
 use Rattle.strip.proofs.OpLaws.{op_run}
@@ -212,7 +211,7 @@ unfolding outcome
 outcome-run w n k l m e =
     let step : suc n + k ≡ suc (n + k) = omega arith in
     ap (λ (j : ℕ). outcome true w j 0 l) step
-    ∙ ap (λ (x : Move). elim x as (λ _. Made) [ refuse r ↦ Made.Refused r | go left' c' s' t ↦ outcome true w (n + k) left' t ])
+    ∙ ap (λ (x : Move). elim x as (λ _. Result (Unit {0}) ℕ) [ refuse r ↦ Err r | go left' c' s' t ↦ outcome true w (n + k) left' t ])
     (ap (measured (n + k)) e ∙ measured-fits (n + k) n 0 0 m (omega arith))
     ∙ outcome-pending true w n k m
 

@@ -1,8 +1,6 @@
 -- Laws of the outcome: it is what the decode comes to, and it goes on past an operation as the decode does.
-use Rattle.std.proofs.Common.{◌≡◌, refl, sym, ap, ◌∙◌, Bool, true, false, cond, List, [], ◌∷◌, ℕ, zero, suc, ◌*◌, ◌≤◌, leb, eqb, get_or, length, drop, arith}
+use Rattle.std.proofs.Common.{◌≡◌, refl, sym, ap, ◌∙◌, Bool, true, false, cond, List, [], ◌∷◌, ℕ, zero, suc, ◌*◌, ◌≤◌, leb, eqb, get_or, length, drop, arith, Result, Ok, Err}
 use Rattle.bits.specs.Bits.{Pull, short, got, pull, bits_of}
-use Rattle.strip.specs.declared.Made.{Made}
-use Rattle.strip.specs.declared.Made.TheVariants.{All, Refused}
 use Rattle.strip.specs.Strip.{plus, minus, Move, refuse, go, walk_op, run_op, change_op, op_of, measured, move_of, Strip, refused, values, made_of, onto}
 use Rattle.strip.specs.Strip.{decode}
 use Rattle.strip.specs.Picture.{shown, coded_of}
@@ -56,8 +54,8 @@ bare_move second w k (suc left) c s l = refl
 
 -- ---- the outcome is what the decode comes to
 
-abbrev onward : (Bool) → (w k : ℕ) → Move → Made
-onward second w k m = elim m as (λ _. Made) [ refuse n ↦ Refused n | go left c s l ↦ outcome second w k left l ]
+abbrev onward : (Bool) → (w k : ℕ) → Move → Result (Unit {0}) ℕ
+onward second w k m = elim m as (λ _. Result (Unit {0}) ℕ) [ refuse n ↦ Err n | go left c s l ↦ outcome second w k left l ]
 
 onward_bare : (second : Bool) (w k : ℕ) (m : Move) → onward second w k m ≡ onward second w k (bare m)
 onward_bare second w k (refuse n) = refl
@@ -94,6 +92,6 @@ test-coded second vertical clear w h s le =
     ∙ test-shown vertical clear h (decode second w (8 * h) 1 (get_or s 1 0) 1 (bits_of (drop 2 s)))
     ∙ outcome_is second w (8 * h) 1 (get_or s 1 0) 1 (bits_of (drop 2 s))
 
-pub test-empty : (second : Bool) (w h : ℕ) (l : List Bool) → h ≡ 0 → All ≡ outcome second w (8 * h) 1 l
+pub test-empty : (second : Bool) (w h : ℕ) (l : List Bool) → h ≡ 0 → Ok tt ≡ outcome second w (8 * h) 1 l
 unfolding outcome
 test-empty second w h l e = let z : 8 * h ≡ 0 = omega arith in rw z

@@ -1,14 +1,10 @@
 -- Laws of the test's steps: past a row's operations, past what a step gives, and from one place to the next.
-use Rattle.std.proofs.Common.{◌≡◌, sym, ap, ap₂, ◌∙◌, subst, Bool, true, false, cond, List, [], ◌∷◌, ◌++◌, ℕ, zero, suc, ◌+◌, ◌-◌, ◌*◌, ◌/◌, ◌%◌, ◌≤◌, ◌<◌, arith, eqb, get_or, length, drop, replicate}
+use Rattle.std.proofs.Common.{◌≡◌, sym, ap, ap₂, ◌∙◌, subst, Bool, true, false, cond, List, [], ◌∷◌, ◌++◌, ℕ, zero, suc, ◌+◌, ◌-◌, ◌*◌, ◌/◌, ◌%◌, ◌≤◌, ◌<◌, arith, eqb, get_or, length, drop, replicate, Result, Ok, Err}
 use Rattle.bits.specs.declared.Cursor.{Cursor}
 use Rattle.bits.specs.Bits.{low_bits, rest, Held}
 use Rattle.bits.specs.Reader.{Hands}
 use Rattle.bits.proofs.BitLaws.{length-low, pull_is, pull-drop, pull-long}
 use Rattle.strip.specs.declared.State.{State}
-use Rattle.strip.specs.declared.Next.{Next}
-use Rattle.strip.specs.declared.Next.TheVariants.{Go, Refuse}
-use Rattle.strip.specs.declared.Made.{Made}
-use Rattle.strip.specs.declared.Made.TheVariants.{All}
 use Rattle.strip.specs.Strip.{made_of}
 use Rattle.strip_test.specs.Outcome.{outcome, Skipped, Tested}
 use Rattle.strip_test.specs.WholeOps.{Row, nothing, after, three_bits, whole_ops, reach, packed, Rows}
@@ -105,7 +101,7 @@ module _ (second : Bool) (w : ℕ) (s : List ℕ) (st to : State) (x u : ℕ) (b
 -- ---- past what gives pixels of one colour
 
 module _ (second : Bool) (w total : ℕ) (s : List ℕ) (st : State) where
-  abbrev left : State → Made
+  abbrev left : State → Result (Unit {0}) ℕ
   left a = outcome second w (total - a.i) 0 (rest s a.cur)
 
   made-left : (a : State) → made_of (ahead second w total s a) ≡ left a
@@ -114,9 +110,9 @@ module _ (second : Bool) (w total : ℕ) (s : List ℕ) (st : State) where
   pub outcome_gives : (to : State) → Gives second w total s st to → left st ≡ left to
   outcome_gives to g = sym (made-left st) ∙ ap made_of g ∙ made-prepend (replicate (to.i - st.i) to.colour) (ahead second w total s to) ∙ made-left to
 
-  pub outcome_stepped : (r : Next) → Stepped second w total s st r → Tested second w total s st r
-  outcome_stepped (Go to) h = (h.0, h.1, h.2, outcome_gives to h.3)
-  outcome_stepped (Refuse n) h = sym (made-left st) ∙ ap made_of h
+  pub outcome_stepped : (r : Result State ℕ) → Stepped second w total s st r → Tested second w total s st r
+  outcome_stepped (Ok to) h = (h.0, h.1, h.2, outcome_gives to h.3)
+  outcome_stepped (Err n) h = sym (made-left st) ∙ ap made_of h
 
 pub kept_went : (second : Bool) (w : ℕ) (s : List ℕ) (st : State) (k : ℕ) (next : Cursor) → Hands k 0 st.cur next → Skipped second w s st (kept_by k next st)
 kept_went second w s st k next zeros =
@@ -152,12 +148,12 @@ module _ (second : Bool) (w total : ℕ) (s : List ℕ) (from st : State) (ei : 
   same_left : left second w total s st from ≡ left second w total s st st
   same_left = λ i. outcome second w (total - sym ei i) 0 (sym er i)
 
-  pub tested_from : (r : Next) → Tested second w total s st r → Tested second w total s from r
-  tested_from (Go to) h = let more = h.0 in (omega (arith, more), h.1, h.2, same_left ∙ h.3)
-  tested_from (Refuse n) h = same_left ∙ h
+  pub tested_from : (r : Result State ℕ) → Tested second w total s st r → Tested second w total s from r
+  tested_from (Ok to) h = let more = h.0 in (omega (arith, more), h.1, h.2, same_left ∙ h.3)
+  tested_from (Err n) h = same_left ∙ h
 
-  pub tested_many : (to : State) → Skipped second w s st to → st.i < to.i → to.i ≤ total → Held s to.cur → Tested second w total s from (Go to)
-  tested_many to f some room held = tested_from (Go to) (some, room, held, went_total second w s total st to (omega arith) room f)
+  pub tested_many : (to : State) → Skipped second w s st to → st.i < to.i → to.i ≤ total → Held s to.cur → Tested second w total s from (Ok to)
+  tested_many to f some room held = tested_from (Ok to) (some, room, held, went_total second w s total st to (omega arith) room f)
 
 -- ---- the test of a whole strip
 
@@ -166,9 +162,6 @@ pub outcome-start : (second : Bool) (w total : ℕ) (l : List Bool) → 1 ≤ to
 unfolding outcome
 outcome-start second w total l h = let e : total ≡ suc (total - 1) = omega arith in ap (λ (n : ℕ). outcome second w n 1 l) e
 
-pub outcome-end : (second : Bool) (w n : ℕ) (l : List Bool) → n ≡ 0 → outcome second w n 0 l ≡ All
+pub outcome-end : (second : Bool) (w n : ℕ) (l : List Bool) → n ≡ 0 → outcome second w n 0 l ≡ Ok tt
 unfolding outcome
 outcome-end second w n l e = ap (λ (k : ℕ). outcome second w k 0 l) e
-
-pub tested_as : (second : Bool) (w total : ℕ) (s : List ℕ) (st : State) {r r' : Next} → r ≡ r' → Tested second w total s st r → Tested second w total s st r'
-tested_as second w total s st e h = subst (λ r. Tested second w total s st r) e h

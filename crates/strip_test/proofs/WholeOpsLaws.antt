@@ -1,7 +1,6 @@
 -- Laws of the whole operations ahead: the outcome goes on past the operations that are counted.
-use Rattle.std.proofs.Common.{◌≡◌, refl, sym, ap, ◌∙◌, Bool, true, false, cond, List, [], ◌∷◌, ◌++◌, ℕ, zero, suc, ◌+◌, ◌*◌, ◌≤◌, arith, eqb, length, drop, drop-drop}
+use Rattle.std.proofs.Common.{◌≡◌, refl, sym, ap, ◌∙◌, Bool, true, false, cond, List, [], ◌∷◌, ◌++◌, ℕ, zero, suc, ◌+◌, ◌*◌, ◌≤◌, arith, eqb, length, drop, drop-drop, Result, Err}
 use Rattle.bits.specs.Bits.{got, bit_value, below, pull}
-use Rattle.strip.specs.declared.Made.{Made}
 use Rattle.strip.specs.Strip.{plus, minus, Move, refuse, go, index_op, run_op, op_of, measured}
 use Rattle.strip_test.specs.Outcome.{outcome}
 use Rattle.strip_test.specs.WholeOps.{Row, nothing, after, three_bits, whole_ops, reach}
@@ -21,7 +20,7 @@ module _ (second : Bool) (w n : ℕ) where
   outcome-one : (l l' : List Bool) (c s : ℕ) → op_of second w 0 0 l ≡ go 0 c s l' → outcome second w (suc n) 0 l ≡ outcome second w n 0 l'
   unfolding outcome
   outcome-one l l' c s e =
-      ap (λ (m : Move). elim m as (λ _. Made) [ refuse r ↦ Made.Refused r | go left' c' s' k ↦ outcome second w n left' k ])
+      ap (λ (m : Move). elim m as (λ _. Result (Unit {0}) ℕ) [ refuse r ↦ Err r | go left' c' s' k ↦ outcome second w n left' k ])
       (ap (measured n) e ∙ measured-fits n 0 c s l' (omega arith))
 
   outcome_keep : (l : List Bool) → outcome second w (suc n) 0 (false ∷ l) ≡ outcome second w n 0 l

@@ -5,34 +5,35 @@ ghost use Rattle.bits.specs.Bits.{Held, rest, bits_of, Views};
 ghost use Rattle.strip_test.specs.WholeOps.{Rows, Small};
 ghost use Rattle.strip_test.specs.Leap.{widened, Leaps, Leapt, Roomy, Begun};
 
+use crate::way::Way;
 use bits::{Cursor, view};
 use number::wide_u16;
 use strip::State;
 use strip::operations::run_pixels;
 
 // A place in the test of a strip: pixel i is the next, and its bits start at bit p of the body.
-#[derive(Clone, Copy)]
+#[derive(Clone, Copy, Debug, PartialEq, Eq)]
 pub(crate) struct Spot {
     p: usize,
     i: usize,
 }
 
 // A spot in each of two bodies.
-#[derive(Clone, Copy)]
+#[derive(Clone, Copy, Debug, PartialEq, Eq)]
 struct Spots {
     a: Spot,
     b: Spot,
 }
 
 // A place in each of two bodies, for the careful test.
-#[derive(Clone, Copy)]
+#[derive(Clone, Copy, Debug, PartialEq, Eq)]
 pub(crate) struct States {
     pub a: State,
     pub b: State,
 }
 
 // The bits ahead, and the sum of the rows that were looked up.
-#[derive(Clone, Copy)]
+#[derive(Clone, Copy, Debug, PartialEq, Eq)]
 struct Sight {
     v: u64,
     sum: usize,
@@ -52,10 +53,8 @@ fn widen_rows(rows: &[u16], w: u32) -> [u16; 256]
     ensures { (256 ≤ length result) × ((second : Bool) → Rows second rows.now → Leaps second w result) }
 {
     let mut out = [0u16; 256];
-    let mut x: usize = 0;
-    while x < 256 {
+    for x in 0..256 {
         out[x] = widen(rows[x], w);
-        x += 1;
     }
     out
 }
@@ -80,7 +79,7 @@ fn four(table: &[u16], v: u64, s: Spot) -> Spot
     ensures { (result.p ≤ s.p + 255) × (result.i ≤ s.i + 1023) × ((second : Bool) (w total : ℕ) (b : List ℕ) → w ≤ 8
         → Leaps second w table.now → Views b s.p v → Roomy total b s → Leapt second w total b s result) }
 {
-    let one = look(table, Sight { v: v, sum: 0 });
+    let one = look(table, Sight { v, sum: 0 });
     let two = look(table, one);
     let three = look(table, two);
     let sum = look(table, three).sum;
@@ -129,10 +128,7 @@ fn leap(body: &[u8], second: bool, total: usize, table: &[u16], s: Spot) -> Spot
 fn bits_of(body: &[u8]) -> usize
     ensures { (result ≤ 32768) × (result ≤ 8 * length body.now) }
 {
-    if 4096 < body.len() {
-        return 32768;
-    }
-    8 * body.len()
+    8 * body.len().min(4096)
 }
 
 fn roomy(end: usize, total: usize, s: Spot) -> bool
@@ -185,12 +181,12 @@ fn leaps_in_two(
         let to_a = leap(x, second_x, total, tx, a);
         let to_b = leap(y, second_y, total, ty, b);
         if to_a.i <= a.i {
-            return Spots { a: a, b: b };
+            return Spots { a, b };
         }
         a = to_a;
         b = to_b;
     }
-    Spots { a: a, b: b }
+    Spots { a, b }
 }
 
 // The same place for the careful test. No refusal depends on a colour or a step, so any will do.
@@ -209,52 +205,29 @@ fn state_at(body: &[u8], s: Spot) -> State
 }
 
 // Where the careful test starts: behind the leaps. A short body isn't worth its rows.
-pub(crate) fn start(body: &[u8], second: bool, w: u32, total: usize, rows: &[u16]) -> State
-    requires { (w ≤ 8) × (1 ≤ total) × (total ≤ 1600) × (2 ≤ length body.now) × (256 ≤ length rows.now) × Rows second rows.now }
-    ensures { Begun second w total body.now result }
+pub(crate) fn start(body: &[u8], way: Way, total: usize) -> State
+    requires { (1 ≤ total) × (total ≤ 1600) × (2 ≤ length body.now) }
+    ensures { Begun way.second way.w total body.now result }
 {
     let first = Spot { p: 16, i: 1 };
     if body.len() < 96 {
         return state_at(body, first);
     }
-    let table = widen_rows(rows, w);
-    state_at(body, leaps(body, second, total, &table, first))
+    let table = widen_rows(way.rows(), way.w);
+    state_at(body, leaps(body, way.second, total, &table, first))
 }
 
 // The same of two bodies.
-pub(crate) fn start_two(
-    x: &[u8],
-    second_x: bool,
-    wx: u32,
-    rows_x: &[u16],
-    y: &[u8],
-    second_y: bool,
-    wy: u32,
-    rows_y: &[u16],
-    total: usize,
-) -> States
-    requires bodies_begin { (wx ≤ 8) × (wy ≤ 8) × (1 ≤ total) × (total ≤ 1600) × (2 ≤ length x.now) × (2 ≤ length y.now) }
-    requires rows_of_methods { (256 ≤ length rows_x.now) × Rows second_x rows_x.now × (256 ≤ length rows_y.now) × Rows second_y rows_y.now }
-    ensures { Begun second_x wx total x.now result.a × Begun second_y wy total y.now result.b }
+pub(crate) fn start_two(x: &[u8], u: Way, y: &[u8], v: Way, total: usize) -> States
+    requires { (1 ≤ total) × (total ≤ 1600) × (2 ≤ length x.now) × (2 ≤ length y.now) }
+    ensures { Begun u.second u.w total x.now result.a × Begun v.second v.w total y.now result.b }
 {
-    let tx = widen_rows(rows_x, wx);
-    let ty = widen_rows(rows_y, wy);
-    let two = leaps_in_two(
-        x,
-        second_x,
-        &tx,
-        y,
-        second_y,
-        &ty,
-        total,
-        Spot { p: 16, i: 1 },
-    );
-    let a = two.a;
-    let b = two.b;
-    let last_a = state_at(x, leaps(x, second_x, total, &tx, a));
-    let last_b = state_at(y, leaps(y, second_y, total, &ty, b));
+    let tx = widen_rows(u.rows(), u.w);
+    let ty = widen_rows(v.rows(), v.w);
+    let first = Spot { p: 16, i: 1 };
+    let two = leaps_in_two(x, u.second, &tx, y, v.second, &ty, total, first);
     States {
-        a: last_a,
-        b: last_b,
+        a: state_at(x, leaps(x, u.second, total, &tx, two.a)),
+        b: state_at(y, leaps(y, v.second, total, &ty, two.b)),
     }
 }

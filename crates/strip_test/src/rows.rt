@@ -1,9 +1,8 @@
 // Rows of operations: for each byte of a strip's bits, what the whole operations at its front take and give (specs/WholeOps.antt).
-ghost use Rattle.std.specs.Prelude.{true, false};
 ghost use Rattle.strip_test.specs.WholeOps.{Rows};
 
 // bits + 16 × pixels + 256 × index, of the first method.
-const FIRST: [u16; 256] = [
+static FIRST: [u16; 256] = [
     136, 272, 289, 104, 306, 272, 104, 104, 323, 272, 289, 291, 104, 272, 104, 291, 340, 272, 289,
     308, 306, 272, 308, 308, 104, 272, 289, 72, 104, 272, 308, 72, 357, 272, 289, 325, 306, 272,
     325, 325, 323, 272, 289, 291, 325, 272, 325, 291, 104, 272, 289, 72, 306, 272, 72, 72, 104,
@@ -21,7 +20,7 @@ const FIRST: [u16; 256] = [
 ];
 
 // The same of the second method.
-const SECOND: [u16; 256] = [
+static SECOND: [u16; 256] = [
     136, 272, 289, 72, 306, 272, 72, 72, 323, 272, 289, 72, 72, 272, 72, 72, 340, 272, 289, 0, 306,
     272, 72, 72, 72, 272, 289, 72, 72, 272, 72, 72, 357, 272, 289, 293, 306, 272, 17, 293, 323,
     272, 289, 293, 72, 272, 72, 293, 68, 272, 289, 0, 306, 272, 72, 293, 72, 272, 289, 293, 72,
@@ -37,14 +36,9 @@ const SECOND: [u16; 256] = [
     306, 272, 38, 21, 72, 272, 289, 21, 55, 272, 38, 21,
 ];
 
-pub(crate) fn first_rows() -> [u16; 256]
-    ensures { Rows false result }
+// The rows of a method.
+pub(crate) fn rows_of(second: bool) -> &'static [u16; 256]
+    ensures { Rows second result.now }
 {
-    FIRST
-}
-
-pub(crate) fn second_rows() -> [u16; 256]
-    ensures { Rows true result }
-{
-    SECOND
+    if second { &SECOND } else { &FIRST }
 }

@@ -1,10 +1,9 @@
 -- Laws of bodies: where a body ends, and that it lies in its block where the table is right.
-use Rattle.std.proofs.Common.{◌≡◌, refl, Bool, true, false, ◌&&◌, cond, List, ◌++◌, ℕ, zero, suc, ◌+◌, ◌-◌, ◌*◌, ◌≤◌, ◌<◌, arith, eq-eqb, ne_eqb, mul-le-mul_left, eqb, length, take, drop, replicate}
+use Rattle.std.proofs.Common.{◌≡◌, refl, Bool, true, false, ◌&&◌, cond, List, ℕ, zero, suc, ◌+◌, ◌-◌, ◌*◌, ◌≤◌, ◌<◌, arith, eq-eqb, ne_eqb, mul-le-mul_left, eqb, length, take, drop, replicate, Ok}
 use Rattle.number.proofs.BoolLaws.{and_left, and_right}
 use Rattle.table.specs.Table.{offset_size, table_end, offset_at, offset_right, bodiless, offsets_right, table_right}
 use Rattle.table.specs.Body.{body_end, rows_at}
 use Rattle.strip.specs.Strip.{Filled}
-use Rattle.strip.specs.declared.Made.TheVariants.{All}
 use Rattle.table.proofs.TableLaws.{right_offset, table_at, table-room}
 
 module _ (mask : Bool) (s : List ℕ) (b z : ℕ) where
@@ -60,8 +59,6 @@ cell_room mask n s b z k right lt le end =
 
 -- rows that are all zero, filled in
 pub zero_rows : (n h : ℕ) (s : List ℕ) (b z k : ℕ) (d e : List ℕ) → offset_at true s b k ≡ 0
-    → take (0 + h) e ≡ take 0 d ++ replicate h 0 → drop (0 + h) e ≡ drop (0 + h) d → Filled h (rows_at n h s b z k) d e All
+    → take h e ≡ replicate h 0 → drop h e ≡ drop h d → Filled h (rows_at n h s b z k) d e (Ok tt)
 unfolding rows_at
-zero_rows n h s b z k d e none front back =
-    let same : 0 + h ≡ h = omega arith in
-    (rw (eq-eqb _ _ none, ← (rw same at front)), rw same at back)
+zero_rows n h s b z k d e none front back = (rw (eq-eqb _ _ none, ← front), back)

@@ -4,21 +4,13 @@
 
 ghost use Rattle.std.specs.Prelude.{◌≡◌, true, false, ◌+◌, ◌-◌, ◌*◌, ◌≤◌, ◌<◌, length};
 ghost use Rattle.strip.specs.Strip.{Filled};
-ghost use Rattle.strip.specs.Picture.{Picture, Answered};
-ghost use Rattle.strip_test.specs.Outcome.{test_of};
+ghost use Rattle.strip.specs.Picture.{Answered};
 ghost use Rattle.table.specs.Table.{offset_size, table_end, offset_at, offset_right, bodiless, table_right};
 ghost use Rattle.table.specs.Body.{body_end, body_of, strip_at, rows_at};
-ghost use Rattle.table.specs.Test.{and_then, picture_test, strip_test, block_test};
+ghost use Rattle.table.specs.Test.{and_then, strip_test, block_test};
 
 use number::{read_le16, read_le32};
-use strip::{Answer, Made};
-
-// What a test of a strip or a block finds.
-#[derive(Clone, Copy)]
-pub enum Test {
-    Passed,
-    Refused(u8),
-}
+use refusal::{Reason, Refusal};
 
 // Where the table ends, counted from the header.
 fn table_end(mask: bool, n: usize) -> usize
@@ -57,18 +49,16 @@ pub fn table_right(room: &[u8], mask: bool, n: usize, b: usize, z: usize) -> boo
     if size < low {
         return false;
     }
-    let mut before: usize = 0;
-    let mut k: usize = 0;
-    while k < n {
+    let mut before = 0;
+    for k in 0..n {
         let offset = offset_at(room, mask, b, k);
         if mask & (offset == 0) {
-            k += 1;
-        } else if offset_right(low, size, before, offset) {
-            before = offset;
-            k += 1;
-        } else {
+            continue;
+        }
+        if !offset_right(low, size, before, offset) {
             return false;
         }
+        before = offset;
     }
     true
 }
@@ -78,13 +68,11 @@ pub fn body_end(room: &[u8], mask: bool, n: usize, b: usize, z: usize, k: usize)
     requires { (k ≤ n) × (n ≤ 128) × (b + table_end mask n ≤ z) × (z ≤ length room.now) }
     ensures { result ≡ body_end mask room.now b z k (n - k) }
 {
-    let mut j = k;
-    while j < n {
+    for j in k..n {
         let offset = offset_at(room, mask, b, j);
         if offset != 0 {
             return b + offset;
         }
-        j += 1;
     }
     z
 }
@@ -110,7 +98,7 @@ pub fn read_strip(
     z: usize,
     k: usize,
     out: &mut [u8],
-) -> Answer
+) -> Result<bool, Refusal>
     requires strip_in_block { (k < n) × (n ≤ 128) × (b ≤ z) × (z ≤ length room.now) }
     requires table_right { table_right false n room.now b z ≡ true }
     requires pixels_fit { (h ≤ 200) × (8 * h ≤ length out.old) }
@@ -128,49 +116,44 @@ pub fn read_rows(
     z: usize,
     k: usize,
     out: &mut [u8],
-) -> Made
+) -> Result<(), Refusal>
     requires strip_in_block { (k < n) × (n ≤ 128) × (b ≤ z) × (z ≤ length room.now) }
     requires table_right { table_right true n room.now b z ≡ true }
     requires rows_fit { h ≤ length out.old }
     ensures { Filled h (rows_at n h room.now b z k) out.old out.new result }
 {
     if offset_at(room, true, b, k) == 0 {
-        number::buffer::fill(out, 0, h, 0);
-        return Made::All;
+        out[..h].fill(0);
+        return Ok(());
     }
     plane::mask_rows(strip_body(room, true, n, b, z, k), h, out)
 }
 
-fn test_of(made: Made) -> Test
-    ensures { (p : Picture) → made ≡ test_of p → result ≡ picture_test p }
-{
-    match made {
-        Made::All => Test::Passed,
-        Made::Refused(number) => Test::Refused(number),
-    }
-}
-
-// The first refusal of two.
-fn and_then(a: Test, b: Test) -> Test
-    ensures { result ≡ and_then a b }
-{
-    match a {
-        Test::Passed => b,
-        Test::Refused(number) => Test::Refused(number),
-    }
-}
-
 // The test of strip k of an SMAP block whose table is right.
-fn test_picture(room: &[u8], n: usize, h: usize, b: usize, z: usize, k: usize) -> Test
+fn test_picture(
+    room: &[u8],
+    n: usize,
+    h: usize,
+    b: usize,
+    z: usize,
+    k: usize,
+) -> Result<(), Refusal>
     requires strip_in_block { (h ≤ 200) × (k < n) × (n ≤ 128) × (b ≤ z) × (z ≤ length room.now) }
     requires table_right { table_right false n room.now b z ≡ true }
     ensures { result ≡ strip_test false n h room.now b z k }
 {
-    test_of(strip_test::test_strip(strip_body(room, false, n, b, z, k), h))
+    strip_test::test_strip(strip_body(room, false, n, b, z, k), h)
 }
 
 // The test of the strips k and k + 1 of an SMAP block whose table is right.
-fn test_pictures(room: &[u8], n: usize, h: usize, b: usize, z: usize, k: usize) -> Test
+fn test_pictures(
+    room: &[u8],
+    n: usize,
+    h: usize,
+    b: usize,
+    z: usize,
+    k: usize,
+) -> Result<(), Refusal>
     requires strips_in_block { (h ≤ 200) × (k + 1 < n) × (n ≤ 128) × (b ≤ z) × (z ≤ length room.now) }
     requires table_right { table_right false n room.now b z ≡ true }
     ensures { result ≡ and_then (strip_test false n h room.now b z k) (strip_test false n h room.now b z (k + 1)) }
@@ -178,28 +161,31 @@ fn test_pictures(room: &[u8], n: usize, h: usize, b: usize, z: usize, k: usize) 
     let x = strip_body(room, false, n, b, z, k);
     let y = strip_body(room, false, n, b, z, k + 1);
     let two = strip_test::test_two(x, y, h);
-    let first = two.a;
-    let last = two.b;
-    and_then(test_of(first), test_of(last))
+    two.a.and(two.b)
 }
 
 // The test of strip k of a ZP block whose table is right.
-fn test_rows(room: &[u8], n: usize, h: usize, b: usize, z: usize, k: usize) -> Test
+fn test_rows(room: &[u8], n: usize, h: usize, b: usize, z: usize, k: usize) -> Result<(), Refusal>
     requires strip_in_block { (h ≤ 200) × (k < n) × (n ≤ 128) × (b ≤ z) × (z ≤ length room.now) }
     requires table_right { table_right true n room.now b z ≡ true }
     ensures { result ≡ strip_test true n h room.now b z k }
 {
     if offset_at(room, true, b, k) == 0 {
-        return Test::Passed;
+        return Ok(());
     }
-    match plane::test_rows(strip_body(room, true, n, b, z, k), h) {
-        Made::All => Test::Passed,
-        Made::Refused(number) => Test::Refused(number),
-    }
+    plane::test_rows(strip_body(room, true, n, b, z, k), h)
 }
 
 // The test of strip k.
-fn test_strip(room: &[u8], mask: bool, n: usize, h: usize, b: usize, z: usize, k: usize) -> Test
+fn test_strip(
+    room: &[u8],
+    mask: bool,
+    n: usize,
+    h: usize,
+    b: usize,
+    z: usize,
+    k: usize,
+) -> Result<(), Refusal>
     requires strip_in_block { (h ≤ 200) × (k < n) × (n ≤ 128) × (b ≤ z) × (z ≤ length room.now) }
     requires table_right { table_right mask n room.now b z ≡ true }
     ensures { result ≡ strip_test mask n h room.now b z k }
@@ -212,42 +198,47 @@ fn test_strip(room: &[u8], mask: bool, n: usize, h: usize, b: usize, z: usize, k
 }
 
 // The test of the strips k and k + 1.
-fn test_pair(room: &[u8], mask: bool, n: usize, h: usize, b: usize, z: usize, k: usize) -> Test
+fn test_pair(
+    room: &[u8],
+    mask: bool,
+    n: usize,
+    h: usize,
+    b: usize,
+    z: usize,
+    k: usize,
+) -> Result<(), Refusal>
     requires strips_in_block { (h ≤ 200) × (k + 1 < n) × (n ≤ 128) × (b ≤ z) × (z ≤ length room.now) }
     requires table_right { table_right mask n room.now b z ≡ true }
     ensures { result ≡ and_then (strip_test mask n h room.now b z k) (strip_test mask n h room.now b z (k + 1)) }
 {
     if mask {
-        and_then(
-            test_rows(room, n, h, b, z, k),
-            test_rows(room, n, h, b, z, k + 1),
-        )
+        test_rows(room, n, h, b, z, k)?;
+        test_rows(room, n, h, b, z, k + 1)
     } else {
         test_pictures(room, n, h, b, z, k)
     }
 }
 
 // The test of a whole block of n strips of h rows.
-pub fn test_block(room: &[u8], mask: bool, n: usize, h: usize, b: usize, z: usize) -> Test
+pub fn test_block(
+    room: &[u8],
+    mask: bool,
+    n: usize,
+    h: usize,
+    b: usize,
+    z: usize,
+) -> Result<(), Refusal>
     requires { (h ≤ 200) × (n ≤ 128) × (b ≤ z) × (z ≤ length room.now) }
     ensures { result ≡ block_test mask n h room.now b z }
 {
     if !table_right(room, mask, n, b, z) {
-        return Test::Refused(5);
+        return Err(Reason::TableWrong.into());
     }
-    let mut k: usize = 0;
-    while k + 1 < n {
-        match test_pair(room, mask, n, h, b, z, k) {
-            Test::Passed => {
-                k += 2;
-            }
-            Test::Refused(number) => {
-                return Test::Refused(number);
-            }
-        }
+    for i in 0..n / 2 {
+        test_pair(room, mask, n, h, b, z, 2 * i)?;
     }
-    if k < n {
-        return test_strip(room, mask, n, h, b, z, k);
+    if n % 2 == 0 {
+        return Ok(());
     }
-    Test::Passed
+    test_strip(room, mask, n, h, b, z, n - 1)
 }

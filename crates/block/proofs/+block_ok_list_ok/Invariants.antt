@@ -8,8 +8,8 @@ decreases-block_ok l = 2 * l.left
 abbrev pub decreases-list_ok : goal.decreases-list_ok
 decreases-list_ok l = 2 * l.left + 1
 
-abbrev pub invariant-list_ok-loop-at : goal.invariant-list_ok-loop-at
-invariant-list_ok-loop-at l = list_ok l.left l.s l.a l.end ≡ list_ok l.left l.s l.at l.end
+abbrev pub invariant-list_ok-loop-z : goal.invariant-list_ok-loop-z
+invariant-list_ok-loop-z l = list_ok l.left l.s l.a l.end ≡ list_ok l.left l.s l.at l.end
 
-abbrev pub decreases-list_ok-loop-at : goal.decreases-list_ok-loop-at
-decreases-list_ok-loop-at l = l.end - l.a
+abbrev pub decreases-list_ok-loop-z : goal.decreases-list_ok-loop-z
+decreases-list_ok-loop-z l = l.end - l.a

@@ -2,8 +2,8 @@ use Rattle.std.proofs.Common.{◌≡◌, ◌-◌}
 use Rattle.block.specs.Tree.{each_has}
 use Rattle.block.proofs.each_has.Given as goal
 
-abbrev pub invariant-loop-at : goal.invariant-loop-at
-invariant-loop-at l = each_has l.tag l.child l.n l.s l.a l.end ≡ each_has l.tag l.child l.n l.s l.at l.end
+abbrev pub invariant-loop-z : goal.invariant-loop-z
+invariant-loop-z l = each_has l.tag l.child l.n l.s l.a l.end ≡ each_has l.tag l.child l.n l.s l.at l.end
 
-abbrev pub decreases-loop-at : goal.decreases-loop-at
-decreases-loop-at l = l.end - l.a
+abbrev pub decreases-loop-z : goal.decreases-loop-z
+decreases-loop-z l = l.end - l.a

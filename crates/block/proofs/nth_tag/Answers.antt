@@ -1,43 +1,46 @@
-use Rattle.std.proofs.Common.{◌∙◌, arith}
-use Rattle.block.proofs.Laws.{end_of, nth_stop, nth_here, nth-down, nth_on}
+use Rattle.std.proofs.Common.{refl, sym, ◌∙◌, arith}
+use Rattle.block.proofs.Laws.{some_end, none_end, end_of, nth_stop, nth_here, nth-down, nth_on}
 use Rattle.block.proofs.nth_tag.Goals as goal
 
-pub returns-then-z-eq0 : goal.returns-then-z-eq0
-returns-then-z-eq0 c =
-    nth_stop _ _ _ _ _ c.block_end-z.ensures _ c.if-z-eq0.true ∙ c.loop-at.invariant
+pub returns : goal.returns
+returns c =
+    let none = none_end _ (sym c.in_default.is ∙ c.block_end.ensures) in
+    nth_stop _ _ _ _ _ refl _ none ∙ c.loop-z.invariant
 
 pub read_be32-requires : goal.read_be32-requires
 read_be32-requires c =
-    let i = end_of _ _ _ _ c.block_end-z.ensures c.if-z-eq0.false in
+    let end = some_end _ _ (sym c.in-Some.is ∙ c.block_end.ensures) in
+    let i = end_of _ _ _ _ end.0 end.1 in
     omega arith
 
 pub returns-then-left-eq0 : goal.returns-then-left-eq0
 returns-then-left-eq0 c =
-    let read-be32 = c.read_be32 in let if1 = c.if-z-eq0 in
-    let block-end = c.block_end-z in
-    let loop = c.loop-at in
-    nth_here _ _ _ _ _ block-end.ensures _ if1.false _ read-be32.ensures c.if-read_be32-tag.true c.if-left-eq0.true
+    let end = some_end _ _ (sym c.in-Some.is ∙ c.block_end.ensures) in
+    let read-be32 = c.read_be32 in let loop = c.loop-z in
+    nth_here _ _ _ _ _ end.0 _ end.1 _ read-be32.ensures c.if-read_be32-tag.true c.if-left-eq0.true
     ∙ loop.invariant
 
-pub loop-at-smaller-else-left-eq0 : goal.loop-at-smaller-else-left-eq0
-loop-at-smaller-else-left-eq0 c =
-    let i = end_of _ _ _ _ c.block_end-z.ensures c.if-z-eq0.false in
+pub loop-z-smaller-else-left-eq0 : goal.loop-z-smaller-else-left-eq0
+loop-z-smaller-else-left-eq0 c =
+    let end = some_end _ _ (sym c.in-Some.is ∙ c.block_end.ensures) in
+    let i = end_of _ _ _ _ end.0 end.1 in
     omega arith
 
-pub loop-at-preserved-else-left-eq0 : goal.loop-at-preserved-else-left-eq0
-loop-at-preserved-else-left-eq0 c =
-    let read-be32 = c.read_be32 in let if1 = c.if-z-eq0 in
-    let block-end = c.block_end-z in
-    let loop = c.loop-at in
-    nth-down _ _ _ _ _ block-end.ensures _ if1.false _ read-be32.ensures c.if-read_be32-tag.true c.if-left-eq0.false
+pub loop-z-preserved-else-left-eq0 : goal.loop-z-preserved-else-left-eq0
+loop-z-preserved-else-left-eq0 c =
+    let end = some_end _ _ (sym c.in-Some.is ∙ c.block_end.ensures) in
+    let read-be32 = c.read_be32 in let loop = c.loop-z in
+    nth-down _ _ _ _ _ end.0 _ end.1 _ read-be32.ensures c.if-read_be32-tag.true c.if-left-eq0.false
     ∙ loop.invariant
 
-pub loop-at-smaller : goal.loop-at-smaller
-loop-at-smaller c =
-    let i = end_of _ _ _ _ c.block_end-z.ensures c.if-z-eq0.false in
+pub loop-z-smaller : goal.loop-z-smaller
+loop-z-smaller c =
+    let end = some_end _ _ (sym c.in-Some.is ∙ c.block_end.ensures) in
+    let i = end_of _ _ _ _ end.0 end.1 in
     omega arith
 
-pub loop-at-preserved : goal.loop-at-preserved
-loop-at-preserved c =
-    nth_on _ _ _ _ _ c.block_end-z.ensures _ c.if-z-eq0.false _ c.read_be32.ensures c.if-read_be32-tag.false
-    ∙ c.loop-at.invariant
+pub loop-z-preserved : goal.loop-z-preserved
+loop-z-preserved c =
+    let end = some_end _ _ (sym c.in-Some.is ∙ c.block_end.ensures) in
+    nth_on _ _ _ _ _ end.0 _ end.1 _ c.read_be32.ensures c.if-read_be32-tag.false
+    ∙ c.loop-z.invariant

@@ -4,7 +4,7 @@ use Rattle.strip.proofs.PictureLaws.{answered-no, answered_from, told_width, str
 use Rattle.decode.proofs.decode_strip.Goals as goal
 
 pub returns-then-body-lt1 : goal.returns-then-body-lt1
-returns-then-body-lt1 c = let a = c.args in answered-no _ _ _ (strip-none a.h a.body.now c.if-body-lt1.true)
+returns-then-body-lt1 c = let a = c.args in rw c.into.ensures (answered-no _ a.out.now _ (strip-none a.h a.body.now c.if-body-lt1.true))
 
 pub coded-requires : goal.coded-requires
 coded-requires c =
@@ -30,4 +30,4 @@ pub returns-in-Unknown : goal.returns-in-Unknown
 returns-in-Unknown c =
     let a = c.args in
     let k = sym c.kind_of.ensures.0 ∙ c.in-Unknown.is in
-    answered-no _ _ _ (strip-some a.h a.body.now c.if-body-lt1.false ∙ ap (by_kind a.h (drop 1 a.body.now)) k)
+    rw c.into-in-Unknown.ensures (answered-no _ a.out.now _ (strip-some a.h a.body.now c.if-body-lt1.false ∙ ap (by_kind a.h (drop 1 a.body.now)) k))

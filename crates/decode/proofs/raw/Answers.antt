@@ -8,7 +8,7 @@ pub returns-then-body-h : goal.returns-then-body-h
 returns-then-body-h c =
     let a = c.args in
     let t = drop 1 a.body.now in
-    answered-no _ _ _ (raw_short a.h t (omega (arith, length-drop 1 a.body.now, c.if-body-h.true)))
+    rw c.into.ensures (answered-no _ a.out.now _ (raw_short a.h t (omega (arith, length-drop 1 a.body.now, c.if-body-h.true))))
 
 pub returns : goal.returns
 returns c =

@@ -7,7 +7,7 @@ pub returns-then-body-h : goal.returns-then-body-h
 returns-then-body-h c =
     let a = c.args in
     let body = a.body.now in
-    sym (ap test_of (raw_short a.h (drop 1 body) (omega (arith, length-drop 1 body, c.if-body-h.true))))
+    rw c.into.ensures (sym (ap test_of (raw_short a.h (drop 1 body) (omega (arith, length-drop 1 body, c.if-body-h.true)))))
 
 pub returns : goal.returns
 returns c =

@@ -7,7 +7,7 @@ skip_many-to-requires c =
     let refill = c.refill-st in let pre = c.requires in
     let f = refill.ensures in
     let ok = c.fits.ensures c.if-fits.true in
-    (pre.4, pre.5.fits, pre.0, ok.enough, f.3.few, omega (arith, ok.room, pre.3))
+    (omega arith, c.rows-rows.ensures.fits, c.args.way.few, ok.enough, f.3.few, omega (arith, ok.room, pre.2))
 
 pub returns-then-st-to : goal.returns-then-st-to
 returns-then-st-to c =
@@ -18,7 +18,7 @@ returns-then-st-to c =
     let f = refill.ensures in
     let g = skip-many.ensures in
     let ok = fits2.ensures if1.true in
-    tested_many a.second a.w a.total s a.from refill.result f.0 f.5 skip-many.result (g.3 a.second s pre.5) c.if-st-to.true
+    tested_many a.way.second a.way.w a.total s a.from refill.result f.0 f.5 skip-many.result (g.3 a.way.second s c.rows-rows.ensures) c.if-st-to.true
     (omega (arith, g.1, ok.room)) (g.2 s f.3)
 
 pub skip-to-requires : goal.skip-to-requires
@@ -27,7 +27,7 @@ skip-to-requires c =
     let pre = c.requires in
     let f = refill.ensures in
     let ok = c.fits-2.ensures c.if-fits-2.true in
-    (pre.4, pre.5.fits, pre.0, ok.enough, f.3.few, omega (arith, ok.room, pre.3))
+    (omega arith, c.rows-rows.ensures.fits, c.args.way.few, ok.enough, f.3.few, omega (arith, ok.room, pre.2))
 
 pub returns-then-st-to-2 : goal.returns-then-st-to-2
 returns-then-st-to-2 c =
@@ -38,7 +38,7 @@ returns-then-st-to-2 c =
     let f = refill.ensures in
     let g = skip.ensures in
     let ok = fits3.ensures if3.true in
-    tested_many a.second a.w a.total s a.from refill.result f.0 f.5 skip.result (g.5 a.second s pre.5) c.if-st-to-2.true
+    tested_many a.way.second a.way.w a.total s a.from refill.result f.0 f.5 skip.result (g.5 a.way.second s c.rows-rows.ensures) c.if-st-to-2.true
     (omega (arith, g.3, ok.room)) (g.4 s f.3)
 
 pub returns : goal.returns
@@ -47,5 +47,5 @@ returns c =
     let a = c.args in
     let s = a.body.now in
     let f = refill.ensures in
-    tested_from a.second a.w a.total s a.from refill.result f.0 f.5 c.step.result
-    (outcome_stepped a.second a.w a.total s refill.result c.step.result (c.step.ensures s f.3 f.4))
+    tested_from a.way.second a.way.w a.total s a.from refill.result f.0 f.5 c.step.result
+    (outcome_stepped a.way.second a.way.w a.total s refill.result c.step.result (c.step.ensures s f.3 f.4))

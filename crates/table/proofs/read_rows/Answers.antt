@@ -1,4 +1,5 @@
-use Rattle.std.proofs.Common.{ne_eqb, arith, true, sym, ◌∙◌}
+use Rattle.std.proofs.Common.{ne_eqb, arith, true, sym, ◌∙◌, ◌≡◌, ◌++◌, take, drop, replicate}
+use Rattle.std.proofs.lemmas.Slice.{overwrites}
 use Rattle.table.proofs.BodyLaws.{cell_room, zero_rows}
 use Rattle.table.specs.Body.{rows_at}
 use Rattle.table.proofs.read_rows.Goals as goal
@@ -8,9 +9,11 @@ offset_at-requires c = (cell_room true _ _ _ _ _ c.requires.table_right c.requir
 
 pub returns-then-offset_at-eq0 : goal.returns-then-offset_at-eq0
 returns-then-offset_at-eq0 c =
-    let fill = c.fill in let if1 = c.if-offset_at-eq0 in
-    let offset_at = c.offset_at in
-    zero_rows _ _ _ _ _ _ _ _ (sym offset_at.ensures.0 ∙ if1.true) fill.ensures.filled fill.ensures.rest_stays
+    let a = c.args in
+    let out = c.fill.new.self ++ drop a.h a.out.now in
+    let front : take a.h out ≡ replicate a.h 0 = grind (arith, overwrites) in
+    let back : drop a.h out ≡ drop a.h a.out.now = grind (arith, overwrites) in
+    zero_rows _ _ _ _ _ _ _ _ (sym c.offset_at.ensures.0 ∙ c.if-offset_at-eq0.true) front back
 
 pub strip_body-requires : goal.strip_body-requires
 strip_body-requires c =

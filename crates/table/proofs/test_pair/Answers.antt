@@ -1,5 +1,4 @@
-use Rattle.std.proofs.Common.{ap₂, ◌∙◌, arith}
-use Rattle.table.specs.Test.{and_then}
+use Rattle.std.proofs.Common.{arith}
 use Rattle.table.proofs.test_pair.Goals as goal
 
 pub test_rows-requires : goal.test_rows-requires
@@ -21,11 +20,6 @@ test_pictures-requires c = record {
   strips_in_block = c.requires.strips_in_block;
   table_right = rw c.if-mask.false at c.requires.table_right;
 }
-
-pub returns-then-mask : goal.returns-then-mask
-returns-then-mask c =
-    let test-rows = c.test_rows in let if1 = c.if-mask in
-    rw if1.true (c.and_then.ensures ∙ ap₂ and_then test-rows.ensures c.test_rows-then-mask.ensures)
 
 pub returns-else-mask : goal.returns-else-mask
 returns-else-mask c = rw c.if-mask.false c.test_pictures.ensures

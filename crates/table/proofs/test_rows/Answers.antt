@@ -1,5 +1,5 @@
 use Rattle.std.proofs.Common.{ne_eqb, arith, ℕ, sym, ap, ◌∙◌, List, true}
-use Rattle.table.proofs.TestLaws.{made-passes, unmade_stops, bodiless-passes, body_tested}
+use Rattle.table.proofs.TestLaws.{rows-tested, bodiless-passes, body_tested}
 use Rattle.table.proofs.BodyLaws.{cell_room}
 use Rattle.table.specs.Body.{body_of}
 use Rattle.plane.specs.Mask.{rows_of, literals}
@@ -21,21 +21,10 @@ strip_body-requires c = record {
   has_body = ne_eqb _ _ (λ e. c.if-offset_at-eq0.false (c.offset_at.ensures.0 ∙ e));
 }
 
-pub returns-in-All : goal.returns-in-All
-returns-in-All c =
-    let test-rows = c.test_rows in let strip-body = c.strip_body in
-    let if1 = c.if-offset_at-eq0 in let offset_at = c.offset_at in
+pub returns : goal.returns
+returns c =
     let a = c.args in
-    let body = body_of true a.n a.room.now a.b a.z a.k in
-    made-passes (rows_of body a.h (literals 0)) (ap (λ (l : List ℕ). made_of (rows_of l a.h (literals 0))) (sym strip-body.ensures) ∙ sym
-    test-rows.ensures ∙ c.in-All.is)
-    ∙ sym (body_tested a.n a.h a.room.now a.b a.z a.k (λ e. if1.false (offset_at.ensures.0 ∙ e)))
-
-pub returns-in-Refused : goal.returns-in-Refused
-returns-in-Refused c =
-    let test-rows = c.test_rows in let strip-body = c.strip_body in let if1 = c.if-offset_at-eq0 in
-    let offset_at = c.offset_at in let a = c.args in
-    let body = body_of true a.n a.room.now a.b a.z a.k in
-    unmade_stops (rows_of body a.h (literals 0)) _ (ap (λ (l : List ℕ). made_of (rows_of l a.h (literals 0))) (sym strip-body.ensures) ∙ sym
-    test-rows.ensures ∙ c.in-Refused.is)
-    ∙ sym (body_tested a.n a.h a.room.now a.b a.z a.k (λ e. if1.false (offset_at.ensures.0 ∙ e)))
+    c.test_rows.ensures
+    ∙ ap (λ (l : List ℕ). made_of (rows_of l a.h (literals 0))) c.strip_body.ensures
+    ∙ rows-tested (rows_of (body_of true a.n a.room.now a.b a.z a.k) a.h (literals 0))
+    ∙ sym (body_tested a.n a.h a.room.now a.b a.z a.k (λ e. c.if-offset_at-eq0.false (c.offset_at.ensures.0 ∙ e)))

@@ -1,11 +1,14 @@
-use Rattle.std.proofs.Common.{◌≡◌, ◌∙◌, false, ◌+◌, ◌*◌, arith}
-use Rattle.strip.proofs.PictureLaws.{take-up_to, placed-over}
+use Rattle.std.proofs.Common.{◌*◌, ◌++◌, drop, ap, sym, ◌∙◌, List, ℕ, false}
+use Rattle.number.specs.Buffer.{over}
+use Rattle.strip.proofs.PictureLaws.{length-up_to, take-up_to, pixel_at}
+use Rattle.strip.specs.Picture.{placed, up_to}
 use Rattle.decode.proofs.placing.rows.Goals as goal
 
 pub returns : goal.returns
+unfolding over placed
 returns c =
     let a = c.args in
-    let e = c.copy.ensures in
-    let z : 0 + 8 * a.h ≡ 8 * a.h = omega arith in
-    placed-over false a.h a.src.now c.copy.new.out a.out.now
-    (rw z at e.copied ∙ take-up_to a.h a.src.now (8 * a.h) c.requires.0) (rw z at e.rest_stays)
+    let n = 8 * a.h in
+    let f = pixel_at false a.h a.src.now in
+    let made = c.copy_from_slice.ensures.after ∙ take-up_to a.h a.src.now n c.requires.0 in
+    ap (λ (t : List ℕ). t ++ drop n a.out.now) made ∙ ap (λ (k : ℕ). up_to f n ++ drop k a.out.now) (sym (length-up_to f n))

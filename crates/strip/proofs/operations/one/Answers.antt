@@ -7,7 +7,7 @@ use Rattle.strip.proofs.operations.one.Goals as goal
 pub returns-then-not-holds : goal.returns-then-not-holds
 returns-then-not-holds c = λ s held full no_run.
     let a = c.args in
-    none_stepped a.second a.w a.total s a.st c.requires.2 full (c.holds.ensures.1 c.if-not-holds.true)
+    rw c.into.ensures (none_stepped a.second a.w a.total s a.st c.requires.2 full (c.holds.ensures.1 c.if-not-holds.true))
 
 pub take-first-requires : goal.take-first-requires
 take-first-requires c = (c.holds.ensures.0 c.if-not-holds.false, c.requires.1)
@@ -24,9 +24,9 @@ returns-then-not-whole c =
     let if2 = c.if-first-eq0 in let taken = c.take-first in
     let a = c.args in let pre = c.requires in
     λ s held full no_run.
-    refuses a.second a.w a.total s a.st 7 pre.2
+    rw c.into-then-not-whole.ensures (refuses a.second a.w a.total s a.st 7 pre.2
     (c.whole.ensures.1 c.if-not-whole.true s full
-    (one-first (rest s a.st.cur) (rest s taken.result.next) taken.result.value (taken.ensures.front s) if2.false) a.st.colour a.st.step)
+    (one-first (rest s a.st.cur) (rest s taken.result.next) taken.result.value (taken.ensures.front s) if2.false) a.st.colour a.st.step))
 
 pub op-requires : goal.op-requires
 op-requires c =

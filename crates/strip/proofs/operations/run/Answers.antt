@@ -6,7 +6,7 @@ use Rattle.strip.proofs.operations.run.Goals as goal
 pub returns-then-not-holds : goal.returns-then-not-holds
 returns-then-not-holds c = λ w s held full is-run.
     let a = c.args in
-    run_cut_stepped w a.total s a.st c.requires.1 is-run full (c.holds.ensures.1 c.if-not-holds.true)
+    rw c.into.ensures (run_cut_stepped w a.total s a.st c.requires.1 is-run full (c.holds.ensures.1 c.if-not-holds.true))
 
 pub take-requires : goal.take-requires
 take-requires c = (omega (arith, c.holds.ensures.0 c.if-not-holds.false), c.requires.0)
@@ -25,8 +25,8 @@ returns-then-total-to c =
     let number = c.run_pixels in let two = c.take-number in
     let one = c.take in let a = c.args in let pre = c.requires in
     λ w s held full is-run.
-    run-past_stepped w a.total s a.st pre.1 is-run one.result.next two.result.next _ _ number.result
-    one.ensures two.ensures number.ensures.0 number.ensures.1 c.if-total-to.true
+    rw c.into-then-total-to.ensures (run-past_stepped w a.total s a.st pre.1 is-run one.result.next two.result.next _ _ number.result
+    one.ensures two.ensures number.ensures.0 number.ensures.1 c.if-total-to.true)
 
 pub returns : goal.returns
 returns c =

@@ -13,5 +13,5 @@ pixels-some (suc n) some = refl
 pub returns-then-n-eq0 : goal.returns-then-n-eq0
 returns-then-n-eq0 c = (pixels-none _ c.if-n-eq0.true, omega arith, omega arith)
 
-pub returns : goal.returns
-returns c = (pixels-some _ c.if-n-eq0.false, omega arith, omega arith)
+pub returns-else-n-eq0 : goal.returns-else-n-eq0
+returns-else-n-eq0 c = (pixels-some _ c.if-n-eq0.false, omega arith, omega arith)
