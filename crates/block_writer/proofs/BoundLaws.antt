@@ -1,5 +1,5 @@
 -- How long a body can be, and that the length of all bodies is the sum of theirs.
-use Rattle.std.proofs.Common.{◌≡◌, ap, ◌∙◌, Bool, true, false, List, ℕ, zero, suc, ◌+◌, ◌*◌, ◌/◌, ◌≤◌, zero-le, mul-suc, le_trans, mul-le-mul_right, arith, length, get_or, drop, length-append, length-drop}
+use Rattle.std.proofs.Common.{◌≡◌, ap, ◌∙◌, Bool, true, false, List, ℕ, zero, suc, ◌+◌, ◌*◌, ◌/◌, ◌≤◌, zero-le, mul-suc, arith, length, get_or, drop, length-append, length-drop}
 use Rattle.table.specs.Table.{table_end}
 use Rattle.strip_writer.proofs.WritingLaws.{length-strip}
 use Rattle.strip_writer.proofs.SizeLaws.{ops_few}
@@ -28,9 +28,6 @@ sum-few f b each k (suc m) = omega (arith, length-append (f k) (bodies_from f (k
 pub size-most : (mask : Bool) (n b : ℕ) (f : ℕ → List ℕ) → ((k : ℕ) → length (f k) ≤ b) → size_of mask n f ≤ table_end mask n + b * n
 unfolding size_of
 size-most mask n b f each = omega (arith, sum-few f b each 0 n)
-
-pub most-few : (b n : ℕ) → b ≤ 2001 → n ≤ 128 → b * n ≤ 256128
-most-few b n few strips = le_trans (mul-le-mul_right n few) (omega arith)
 
 -- one body more
 pub sum_step : (f : ℕ → List ℕ) (s m k : ℕ) → m ≡ suc k → length (bodies_from f s m) ≡ length (f s) + length (bodies_from f (s + 1) k)

@@ -1,8 +1,7 @@
 -- Laws of the calls: each answer from the tests that led to it.
-use Rattle.std.proofs.Common.{◌≡◌, refl, sym, ap, ap₂, ◌∙◌, Bool, true, ◌&&◌, List, ◌++◌, append_assoc, ℕ, ◌+◌, ◌*◌, ◌%◌, ◌≤◌, ◌<◌, le_trans, mul-le-mul_right, zero-add, arith, lt-ltb, le-ltb, leb-true, eqb-true, length, take, drop, length-append, drop_at, length-take-le, leb, eqb}
+use Rattle.std.proofs.Common.{◌≡◌, refl, sym, ap, ap₂, ◌∙◌, Bool, true, ◌&&◌, List, ◌++◌, append_assoc, ℕ, ◌+◌, ◌*◌, ◌%◌, ◌≤◌, ◌<◌, le_trans, mul-le-mul_right, zero-add, arith, lt-ltb, le-ltb, leb-true, eqb-true, length, take, drop, length-append, drop_at, length-take-le, leb, eqb, Ok, Err}
 use lib.Seq.{sets}
 use Rattle.number.specs.Number.{be32_bytes}
-use Rattle.block_writer.specs.declared.Wrote.TheVariants.{Block, Refused}
 use Rattle.table.specs.Table.{table_end}
 use Rattle.block_writer.specs.Block.{table_from, bodies_from, size_of, block_of, body_for}
 use Rattle.block_writer.specs.Call.{sizes_allowed, source_size, block_outcome, Answered}
@@ -99,7 +98,7 @@ block-done tag mask n f d size same room x e g h =
 -- ---- the answers
 
 module _ (tag : ℕ) (mask : Bool) (n h : ℕ) (src d : List ℕ) where
-  pub short_source : length src < source_size mask n h → Answered (block_outcome tag mask n h src (length d)) d d (Refused 4)
+  pub short_source : length src < source_size mask n h → Answered (block_outcome tag mask n h src (length d)) d d (Err 4)
   unfolding block_outcome
   short_source lt = rw (lt-ltb (length src) (source_size mask n h) lt) (refl, refl)
 
@@ -107,15 +106,15 @@ module _ (tag : ℕ) (mask : Bool) (n h : ℕ) (src d : List ℕ) where
     len : length (block_of tag mask n (body_for mask n h src)) ≡ size_of mask n (body_for mask n h src)
     len = length-block tag mask n (body_for mask n h src)
 
-    pub short_target : length d < size_of mask n (body_for mask n h src) → Answered (block_outcome tag mask n h src (length d)) d d (Refused 4)
+    pub short_target : length d < size_of mask n (body_for mask n h src) → Answered (block_outcome tag mask n h src (length d)) d d (Err 4)
     unfolding block_outcome
     short_target lt =
         rw (le-ltb (length src) (source_size mask n h) enough, lt-ltb (length d) (length (block_of tag mask n (body_for mask n h src))) (omega (arith, len)))
         (refl, refl)
 
     pub whole-block : (size : ℕ) → size ≡ size_of mask n (body_for mask n h src) → size_of mask n (body_for mask n h src) ≤ length d
-        → (e : List ℕ) → e ≡ over (block_of tag mask n (body_for mask n h src)) d → Answered (block_outcome tag mask n h src (length d)) d e (Block size)
+        → (e : List ℕ) → e ≡ over (block_of tag mask n (body_for mask n h src)) d → Answered (block_outcome tag mask n h src (length d)) d e (Ok size)
     unfolding block_outcome
     whole-block size same le e f =
         rw (le-ltb (length src) (source_size mask n h) enough, le-ltb (length d) (length (block_of tag mask n (body_for mask n h src))) (omega (arith, len)))
-        (ap Block (same ∙ sym len), f)
+        (ap Ok (same ∙ sym len), f)

@@ -1,4 +1,5 @@
 pub mod PutLaws
+pub mod SourceLaws
 pub mod StripBytesLaws
 pub mod FillLaws
 pub mod BoundLaws

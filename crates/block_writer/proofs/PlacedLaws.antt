@@ -1,13 +1,11 @@
 -- A block that is written, as the reader's own definitions (crate table) find it wherever it stands: its header, its offsets, where
 -- each body ends, its bodies, and that its table is right. For any bodies f that the offsets can point at.
-use Rattle.std.proofs.Common.{◌≡◌, refl, sym, ap, ap₂, ◌∙◌, Bool, true, false, ◌&&◌, cond, List, [], ◌∷◌, ◌++◌, append_assoc, append-nil, ℕ, zero, suc, ◌+◌, ◌-◌, ◌*◌, ◌/◌, ◌%◌, ◌^◌, ◌≤◌, ◌<◌, zero-le, mod-eq_of_lt, le_refl, add-zero, zero-add, suc-add, arith, eq-eqb, ne_eqb, le-leb, lt-ltb, length, get_or, take, drop, length-append, get_or-append-add, drop_at, take_at, eqb}
+use Rattle.std.proofs.Common.{◌≡◌, refl, sym, ap, ap₂, ◌∙◌, Bool, true, false, ◌&&◌, cond, List, [], ◌∷◌, ◌++◌, append_assoc, append-nil, ℕ, zero, suc, ◌+◌, ◌-◌, ◌*◌, ◌/◌, ◌%◌, ◌^◌, ◌≤◌, ◌<◌, zero-le, mod-eq_of_lt, le_refl, add-zero, zero-add, suc-add, arith, eq-eqb, ne_eqb, le-leb, lt-ltb, length, get_or, take, drop, length-append, get_or-append-add, drop_at, take_at, eqb, Result, Ok}
 use native.Mathlib.Nat.{div-div-eq-div-mul, mod-add-div}
 use Rattle.number.specs.Number.{be32, le16, le32, le16_bytes, le32_bytes, be32_bytes}
 use Rattle.table.specs.Table.{offset_size, table_end, offset_at, offset_right, bodiless, offsets_right, table_right}
 use Rattle.table.specs.Body.{body_end, body_of}
 use Rattle.table.specs.Test.{strip_test, leftmost, block_test}
-use Rattle.table.specs.declared.Test.{Test}
-use Rattle.table.specs.declared.Test.TheVariants.{Passed}
 use Rattle.table.proofs.TestLaws.{leftmost-none, leftmost_pass}
 use Rattle.block_writer.specs.Block.{offset_bytes, offset_of, table_from, bodies_from, size_of, block_of}
 use Rattle.block_writer.proofs.FillLaws.{length-table, bodies_step}
@@ -310,12 +308,12 @@ module _ (mask : Bool) (n : ℕ) (f : ℕ → List ℕ) (s : List ℕ) (b z : �
 
 -- ---- the leftmost refusal where every test from `low` on passes, and the test of a block all of whose strips pass
 
-module _ (low n : ℕ) (test : ℕ → Test) (all : (k : ℕ) → low ≤ k → k < n → test k ≡ Passed) where
-  pub leftmost-all : (m k : ℕ) → low ≤ k → k + m ≡ n → leftmost test k m ≡ Passed
+module _ (low n : ℕ) (test : ℕ → Result (Unit {0}) ℕ) (all : (k : ℕ) → low ≤ k → k < n → test k ≡ Ok tt) where
+  pub leftmost-all : (m k : ℕ) → low ≤ k → k + m ≡ n → leftmost test k m ≡ Ok tt
   leftmost-all zero k le e = leftmost-none test k 0 refl
   leftmost-all (suc m) k le e = leftmost_pass test k (suc m) m refl (all k le (omega arith)) ∙ leftmost-all m (k + 1) (omega arith) (omega arith)
 
-pub block-passes : (mask : Bool) (n h : ℕ) (s : List ℕ) (b z : ℕ) → table_right mask n s b z ≡ true → ((k : ℕ) → k < n → strip_test mask n h s b z k ≡ Passed) →
-    block_test mask n h s b z ≡ Passed
+pub block-passes : (mask : Bool) (n h : ℕ) (s : List ℕ) (b z : ℕ) → table_right mask n s b z ≡ true → ((k : ℕ) → k < n → strip_test mask n h s b z k ≡ Ok tt) →
+    block_test mask n h s b z ≡ Ok tt
 unfolding block_test
 block-passes mask n h s b z right all = rw right (leftmost-all 0 n (strip_test mask n h s b z) (λ k le lt. all k lt) n 0 zero-le (zero-add n))

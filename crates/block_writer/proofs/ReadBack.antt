@@ -1,7 +1,7 @@
 -- Demand 2, of the writers: "Pictures and planes that we write are exactly the bytes of [document 01's] writing rule, and read back as
 -- the rows given." That the bytes are the rule's is what the calls' contracts say; here is that they read back, by the reader's own
 -- definitions: crate table's test of a block, its strips, its pixels and its mask bytes.
-use Rattle.std.proofs.Common.{◌≡◌, refl, sym, ap, ◌∙◌, subst, Bool, true, false, ◌&&◌, cond, List, [], ◌++◌, append-nil, ℕ, ◌+◌, ◌*◌, ◌/◌, ◌%◌, ◌^◌, ◌≤◌, ◌<◌, zero-add, arith, length, get_or, take, drop, take_at, leb, ltb, lit<, leb-true, ltb-false}
+use Rattle.std.proofs.Common.{◌≡◌, refl, sym, ap, ◌∙◌, subst, Bool, true, false, ◌&&◌, cond, List, [], ◌++◌, append-nil, ℕ, ◌+◌, ◌*◌, ◌/◌, ◌%◌, ◌^◌, ◌≤◌, ◌<◌, zero-add, arith, length, get_or, take, drop, take_at, leb, ltb, lit<, leb-true, ltb-false, Ok, Err}
 use Rattle.number.proofs.BoolLaws.{both}
 use Rattle.number.specs.Buffer.{over}
 use Rattle.table.specs.Table.{table_right}
@@ -9,7 +9,6 @@ use Rattle.table.specs.Body.{pixels_of, row_values, pixel_at, mask_at}
 use Rattle.table.specs.Test.{picture_test, rows_test, strip_test}
 use Rattle.strip_writer.proofs.PixelLaws.{Bytes}
 use Rattle.block_writer.specs.Block.{body_for, block_of, smap_tag, plane_tag, smap_block, plane_block}
-use Rattle.block_writer.specs.declared.Wrote.TheVariants.{Block, Refused}
 use Rattle.block_writer.specs.Call.{refused, written, sizes_allowed, source_size, block_outcome, smap_outcome, plane_outcome, answer_of, target_after}
 use Rattle.block_writer.specs.Reads.{SmapReads, PlaneReads}
 use Rattle.block_writer.proofs.CallLaws.{Sizes, sizes, length-block}
@@ -84,17 +83,17 @@ pub record Accepted (tag : ℕ) (mask : Bool) (w h : ℕ) (rows d e : List ℕ) 
   pub size : length (block_of tag mask (w / 8) (body_for mask (w / 8) h rows)) ≡ len
   pub target : block_of tag mask (w / 8) (body_for mask (w / 8) h rows) ++ drop len d ≡ e
 
-wrong : {P : Type 0} (len k : ℕ) → Block len ≡ Refused k → P
+wrong : {P : Type 0} (len k : ℕ) → Ok len ≡ Err k → P
 wrong len k e = absurd (let z : ◌≡◌ {A = ℕ} 0 1 = cc in omega arith)
 
 block-accepted : (tag : ℕ) (mask : Bool) (w h : ℕ) (rows d e : List ℕ) (len : ℕ) → Sizes w h
-    → Block len ≡ answer_of (block_outcome tag mask (w / 8) h rows (length d)) → e ≡ target_after (block_outcome tag mask (w / 8) h rows (length d)) d
+    → Ok len ≡ answer_of (block_outcome tag mask (w / 8) h rows (length d)) → e ≡ target_after (block_outcome tag mask (w / 8) h rows (length d)) d
     → Accepted tag mask w h rows d e len
 unfolding block_outcome over
 block-accepted tag mask w h rows d e len allowed = go (ltb (length rows) (source_size mask (w / 8) h)) refl
     (ltb (length d) (length (block_of tag mask (w / 8) (body_for mask (w / 8) h rows))))
   where
-    go : (p : Bool) → ltb (length rows) (source_size mask (w / 8) h) ≡ p → (q : Bool) → Block len ≡ answer_of
+    go : (p : Bool) → ltb (length rows) (source_size mask (w / 8) h) ≡ p → (q : Bool) → Ok len ≡ answer_of
         (cond p (refused 4) (cond q (refused 4) (written (block_of tag mask (w / 8) (body_for mask (w / 8) h rows)))))
         → e ≡ target_after (cond p (refused 4) (cond q (refused 4) (written (block_of tag mask (w / 8) (body_for mask (w / 8) h rows))))) d
         → Accepted tag mask w h rows d e len
@@ -111,7 +110,7 @@ block-accepted tag mask w h rows d e len allowed = go (ltb (length rows) (source
 
 -- a call that gives 3 where its test fails
 tested : (test : Bool) (tag : ℕ) (mask : Bool) (w h : ℕ) (rows d e : List ℕ) (len : ℕ)
-    → Block len ≡ answer_of (cond test (block_outcome tag mask (w / 8) h rows (length d)) (refused 3))
+    → Ok len ≡ answer_of (cond test (block_outcome tag mask (w / 8) h rows (length d)) (refused 3))
     → e ≡ target_after (cond test (block_outcome tag mask (w / 8) h rows (length d)) (refused 3)) d
     → (test ≡ true) × (Sizes w h → Accepted tag mask w h rows d e len)
 tested true tag mask w h rows d e len a t = (refl, λ allowed. block-accepted tag mask w h rows d e len allowed a t)
@@ -149,7 +148,7 @@ module _ (tag : ℕ) (mask : Bool) (w h : ℕ) (rows d e : List ℕ) (len : ℕ)
       )
 
 module _ (w h : ℕ) (rows d e : List ℕ) (len : ℕ) where
-  module _ (answer : Block len ≡ answer_of (smap_outcome w h rows (length d))) (target : e ≡ target_after (smap_outcome w h rows (length d)) d) where
+  module _ (answer : Ok len ≡ answer_of (smap_outcome w h rows (length d))) (target : e ≡ target_after (smap_outcome w h rows (length d)) d) where
     pub smap-accepted : Accepted smap_tag false w h rows d e len
     unfolding smap_outcome
     smap-accepted =
@@ -187,7 +186,7 @@ module _ (w h : ℕ) (rows d e : List ℕ) (len : ℕ) where
         let k = smap-accepted.allowed in
         omega (arith, smap-accepted.size, length-smap (w / 8) h rows k.one k.high (omega (arith, k.narrow)))
 
-  module _ (k : ℕ) (answer : Block len ≡ answer_of (plane_outcome k w h rows (length d))) (target : e ≡ target_after (plane_outcome k w h rows (length d)) d)
+  module _ (k : ℕ) (answer : Ok len ≡ answer_of (plane_outcome k w h rows (length d))) (target : e ≡ target_after (plane_outcome k w h rows (length d)) d)
     where
       pub plane-accepted : Accepted (plane_tag k) true w h rows d e len × (k ≤ 4)
       unfolding plane_outcome

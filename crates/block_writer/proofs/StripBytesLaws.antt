@@ -1,8 +1,10 @@
 -- Laws of a strip taken out of the rows.
-use Rattle.std.proofs.Common.{◌≡◌, refl, sym, ap, ap₂, ◌∙◌, Bool, true, false, List, [], ◌∷◌, ◌++◌, append_assoc, append-nil, ℕ, zero, suc, ◌+◌, ◌*◌, ◌/◌, ◌%◌, ◌≤◌, ◌<◌, add-zero, add-suc, suc-mul, mul-le-mul_right, le_refl, arith, length, get_or, take, set}
+use Rattle.std.proofs.Common.{◌≡◌, refl, sym, ap, ap₂, ◌∙◌, Bool, true, false, List, [], ◌∷◌, ◌++◌, append_assoc, append-nil, ℕ, zero, suc, ◌+◌, ◌*◌, ◌/◌, ◌%◌, ◌≤◌, ◌<◌, add-zero, add-suc, suc-mul, mul-le-mul_right, le_refl, arith, length, get_or, take, drop, set, zero-add, length-drop, get_or-drop, drop-drop, ◌-◌}
+use borrow.Rule.Slice.PartMut.{put_mid}
 use lib.Seq.{sets}
+use Rattle.number.proofs.StoreLaws.{sets_is}
 use Rattle.strip.specs.Picture.{up_to}
-use Rattle.strip.proofs.PictureLaws.{length-up_to, up_to_store}
+use Rattle.strip.proofs.PictureLaws.{length-up_to, take-up_to, up_to_store}
 use Rattle.table.specs.Table.{offset_size}
 use Rattle.block_writer.specs.Block.{place_of, strip_bytes, body_for}
 use Rattle.block_writer.specs.Call.{source_size}
@@ -21,6 +23,24 @@ up_to-add F g a (suc m) same =
     ap (up_to F) (add-suc a m)
     ∙ ap₂ (λ (l : List ℕ) (v : ℕ). l ++ (v ∷ [])) (up_to-add F g a m (λ j h. same j (omega arith))) (same m (le_refl (suc m)))
     ∙ append_assoc (up_to F a) (up_to g m) (g m ∷ [])
+
+-- eight bytes copied, from one place to another
+pub eight_copied : (d src part : List ℕ) (from to : ℕ) → from + 8 ≤ length src → to + 8 ≤ length d → part ≡ take (from + 8 - from) (drop from src)
+    → put_mid to (to + 8 - to) d part ≡ sets d to (up_to (λ j. get_or src (from + j) 0) 8)
+eight_copied d src part from to read room e =
+    let row = up_to (λ j. get_or src (from + j) 0) 8 in
+    let n : from + 8 - from ≡ 8 = omega arith in
+    let m : to + 8 - to ≡ 8 = omega arith in
+    let len : length row ≡ 8 = length-up_to (λ j. get_or src (from + j) 0) 8 in
+    let same : part ≡ row =
+    e
+    ∙ ap (λ (k : ℕ). take k (drop from src)) n
+    ∙ take-up_to 1 (drop from src) 8 (omega (arith, length-drop from src))
+    ∙ up_to-add (λ j. get_or (drop from src) j 0) (λ j. get_or src (from + j) 0) 0 8
+    (λ j h. ap (λ (k : ℕ). get_or (drop from src) k 0) (zero-add j) ∙ get_or-drop from src j 0) in
+    ap₂ (λ (k : ℕ) (p : List ℕ). put_mid to k d p) m same
+    ∙ ap (λ (q : List ℕ). take to d ++ (row ++ q)) (drop-drop 8 to d ∙ ap (λ (k : ℕ). drop (to + k) d) (sym len))
+    ∙ sym (sets_is d to row (omega (arith, len)))
 
 -- ---- a row of a picture: its eight bytes of strip k
 
@@ -46,9 +66,6 @@ pixels-more wide k src out y room so_far =
     ∙ ap (up_to (λ j. get_or src (place_of 8 wide k j) 0)) (sym next)
 
 -- ---- a row of a plane: its byte of strip k
-
-pub byte_in : (n h k y size : ℕ) → k < n → h * n ≤ size → y < h → y * n + k < size
-byte_in n h k y size fits all lt = let m : suc y * n ≤ h * n = mul-le-mul_right n lt in omega (arith, suc-mul y n)
 
 byte_place : (n k y : ℕ) → place_of 1 n k y ≡ y * n + k
 byte_place n k y =

@@ -1,10 +1,8 @@
 -- The calls that write a background or a plane (document 01, "Writing rule", "Numbered refusals"): the block that is written, or the
 -- number of the refusal. 3 goes before 4.
-use Rattle.std.specs.Prelude.{◌≡◌, Bool, true, false, ◌&&◌, cond, List, ℕ, ◌*◌, ◌/◌, ◌%◌, ◌≤◌, length, eqb, leb, ltb}
+use Rattle.std.specs.Prelude.{◌≡◌, Bool, true, false, ◌&&◌, cond, List, ℕ, ◌*◌, ◌/◌, ◌%◌, ◌≤◌, length, eqb, leb, ltb, Result, Ok, Err}
 use Rattle.number.specs.Buffer.{over}
 use Rattle.block_writer.specs.Block.{body_for, block_of, smap_tag, plane_tag}
-use Rattle.block_writer.specs.declared.Wrote.{Wrote}
-use Rattle.block_writer.specs.declared.Wrote.TheVariants.{Block, Refused}
 
 -- what a call does: it gives a number, or writes a block
 pub data Outcome : Type 0 where
@@ -12,9 +10,9 @@ pub data Outcome : Type 0 where
   written : List ℕ → Outcome
 
 -- the call's answer
-abbrev pub answer_of : Outcome → Wrote
-answer_of (refused k) = Refused k
-answer_of (written b) = Block (length b)
+abbrev pub answer_of : Outcome → Result ℕ ℕ
+answer_of (refused k) = Err k
+answer_of (written b) = Ok (length b)
 
 -- the target d after the call: a refusal changes nothing, and bytes past the block stay
 abbrev pub target_after : Outcome → List ℕ → List ℕ
@@ -22,14 +20,14 @@ target_after (refused k) d = d
 target_after (written b) d = over b d
 
 -- document 01's number for each case of an answer
-abbrev pub number : Wrote → ℕ
-number (Block size) = 0
-number (Refused k) = k
+abbrev pub number : Result ℕ ℕ → ℕ
+number (Ok size) = 0
+number (Err k) = k
 
 -- and its value: the block's length
-abbrev pub value : Wrote → ℕ
-value (Block size) = size
-value (Refused k) = 0
+abbrev pub value : Result ℕ ℕ → ℕ
+value (Ok size) = size
+value (Err k) = 0
 
 -- width a multiple of 8, 8 to 1,024; height 1 to 200
 unfoldable pub sizes_allowed : (w h : ℕ) → Bool
@@ -59,7 +57,7 @@ plane_outcome k w h rows room = cond (sizes_allowed w h && (leb 1 k && leb k 4))
 -- ---- for the proofs: no public promise rests on what follows
 
 -- the answer r, and the target d that is e after
-abbrev pub Answered : Outcome → (d e : List ℕ) → Wrote → Type 0
+abbrev pub Answered : Outcome → (d e : List ℕ) → Result ℕ ℕ → Type 0
 Answered o d e r = (r ≡ answer_of o) × (e ≡ target_after o d)
 
 -- what the parts of an accepted call may take for granted

@@ -12,16 +12,10 @@ ghost use Rattle.block_writer.specs.Call.{sizes_allowed, source_size, block_outc
 
 use number::buffer::put_four;
 use number::{put_be32, put_le16, put_le32};
-
-// The answer of a call: the length of the block that it wrote, or the number of its refusal.
-#[derive(Clone, Copy)]
-pub enum Wrote {
-    Block(usize),
-    Refused(u8),
-}
+use refusal::{Reason, Refusal};
 
 // Eight bytes of `src` from `from` on into `out` from `to` on. All are read before the first is stored: as the two may be the same memory
-// for all that the compiler knows, only then does it make one load and one store of them.
+// for all that the compiler knows, only then does it make one load and one store of them. With copy_from_slice a block took 1.09 of the time.
 fn copy_eight(src: &[u8], from: usize, out: &mut [u8], to: usize)
     requires { (from + 8 ≤ length src.now) × (to + 8 ≤ length out.old) }
     ensures { out.new ≡ sets out.old to (up_to (λ j. get_or src.now (from + j) 0) 8) }
@@ -43,10 +37,8 @@ fn gather_pixels(src: &[u8], wide: usize, h: usize, k: usize, out: &mut [u8])
     requires { (8 * k + 8 ≤ wide) × (h * wide ≤ length src.now) × (8 * h ≤ length out.old) }
     ensures { take (8 * h) out.new ≡ strip_bytes 8 wide h src.now k }
 {
-    let mut y: usize = 0;
-    while y < h {
+    for y in 0..h {
         copy_eight(src, y * wide + 8 * k, out, 8 * y);
-        y += 1;
     }
 }
 
@@ -55,10 +47,8 @@ fn gather_rows(src: &[u8], n: usize, h: usize, k: usize, out: &mut [u8])
     requires { (k < n) × (h * n ≤ length src.now) × (h ≤ length out.old) }
     ensures { take h out.new ≡ strip_bytes 1 n h src.now k }
 {
-    let mut y: usize = 0;
-    while y < h {
+    for y in 0..h {
         out[y] = src[y * n + k];
-        y += 1;
     }
 }
 
@@ -84,41 +74,6 @@ fn put_offset(out: &mut [u8], mask: bool, at: usize, v: usize)
     }
 }
 
-// The body of strip k of a picture at the front of `out`: its length.
-fn write_pixels(src: &[u8], n: usize, h: usize, k: usize, out: &mut [u8]) -> usize
-    requires { Given false n h (length src.now) × (k < n) × (length (body_for false n h src.now k) ≤ length out.old) }
-    ensures { (result ≡ length (body_for false n h src.now k))
-        × (out.new ≡ over (body_for false n h src.now k) out.old) }
-{
-    let mut strip = [0u8; 1600];
-    gather_pixels(src, 8 * n, h, k, &mut strip);
-    let total = 8 * h;
-    strip_writer::write_strip(&strip[..total], out)
-}
-
-// The body of strip k of a plane at the front of `out`: its length, 0 where it has none.
-fn write_rows(src: &[u8], n: usize, h: usize, k: usize, out: &mut [u8]) -> usize
-    requires { Given true n h (length src.now) × (k < n) × (length (body_for true n h src.now k) ≤ length out.old) }
-    ensures { (result ≡ length (body_for true n h src.now k))
-        × (out.new ≡ over (body_for true n h src.now k) out.old) }
-{
-    let mut strip = [0u8; 200];
-    gather_rows(src, n, h, k, &mut strip);
-    strip_writer::write_rows(&strip[..h], out)
-}
-
-// The body of strip k at the front of `out`: its length, 0 where it has none.
-fn write_body(src: &[u8], mask: bool, n: usize, h: usize, k: usize, out: &mut [u8]) -> usize
-    requires { Given mask n h (length src.now) × (k < n) × (length (body_for mask n h src.now k) ≤ length out.old) }
-    ensures { (result ≡ length (body_for mask n h src.now k))
-        × (out.new ≡ over (body_for mask n h src.now k) out.old) }
-{
-    if mask {
-        return write_rows(src, n, h, k, out);
-    }
-    write_pixels(src, n, h, k, out)
-}
-
 // The offset of a body of `len` bytes at `at`: 0 where there is no body.
 fn offset_of(len: usize, at: usize) -> usize
     ensures { (b : List ℕ) → len ≡ length b → result ≡ offset_of b at }
@@ -127,17 +82,6 @@ fn offset_of(len: usize, at: usize) -> usize
         return 0;
     }
     at
-}
-
-// The length of the body of strip k of a picture, counted and not written.
-fn pixels_size(src: &[u8], n: usize, h: usize, k: usize) -> usize
-    requires { Given false n h (length src.now) × (k < n) }
-    ensures { result ≡ length (body_for false n h src.now k) }
-{
-    let mut strip = [0u8; 1600];
-    gather_pixels(src, 8 * n, h, k, &mut strip);
-    let total = 8 * h;
-    strip_writer::strip_size(&strip[..total])
 }
 
 // The longest that the body of a strip of h rows can be, whatever they hold: a code, a colour and 8h - 1 operations of 10 bits; or a byte for
@@ -152,68 +96,6 @@ fn body_most(mask: bool, h: usize) -> usize
     10 * h + 1
 }
 
-// The length of the body of strip k. One of a plane is written to be measured, into a scratch that has room for the longest.
-fn body_size(src: &[u8], mask: bool, n: usize, h: usize, k: usize) -> usize
-    requires { Given mask n h (length src.now) × (k < n) }
-    ensures { (result ≡ length (body_for mask n h src.now k)) × (result ≤ 2001) }
-{
-    if mask {
-        let mut scratch = [0u8; 267];
-        return write_rows(src, n, h, k, &mut scratch);
-    }
-    pixels_size(src, n, h, k)
-}
-
-// The length of all bodies.
-fn bodies_size(src: &[u8], mask: bool, n: usize, h: usize) -> usize
-    requires { Given mask n h (length src.now) }
-    ensures { (result ≡ length (bodies_from (body_for mask n h src.now) 0 n)) × (result ≤ 2001 * n) }
-{
-    let mut sum: usize = 0;
-    let mut k: usize = 0;
-    while k < n {
-        sum += body_size(src, mask, n, h, k);
-        k += 1;
-    }
-    sum
-}
-
-// Whether a block has room in a target of `room` bytes. It is measured only where the longest bodies would not have room: a caller who lends the
-// most that a block can take has it written in one pass.
-fn has_room(src: &[u8], mask: bool, n: usize, h: usize, room: usize) -> bool
-    requires { Given mask n h (length src.now) }
-    ensures { result ≡ leb (size_of mask n (body_for mask n h src.now)) room }
-{
-    let table = 8 + offset_size(mask) * n;
-    if table + body_most(mask, h) * n <= room {
-        return true;
-    }
-    let size = table + bodies_size(src, mask, n, h);
-    size <= room
-}
-
-// The table and the bodies, after a header of 8 bytes: where they end.
-fn write_strips(src: &[u8], mask: bool, n: usize, h: usize, out: &mut [u8]) -> usize
-    requires { Given mask n h (length src.now) × (size_of mask n (body_for mask n h src.now) ≤ length out.old) }
-    ensures { (result ≡ size_of mask n (body_for mask n h src.now))
-        × (out.new ≡ over (take 8 out.old
-        ++ (table_from mask (body_for mask n h src.now) 0 n (table_end mask n)
-        ++ bodies_from (body_for mask n h src.now) 0 n)) out.old) }
-{
-    let size = offset_size(mask);
-    let mut at = 8 + size * n;
-    let mut entry: usize = 8;
-    let mut k: usize = 0;
-    while k < n {
-        let len = write_body(src, mask, n, h, k, &mut out[at..]);
-        put_offset(out, mask, entry, offset_of(len, at));
-        at += len;
-        entry += size;
-        k += 1;
-    }
-    at
-}
-
 // How many bytes a block is made from.
 fn source_size(mask: bool, n: usize, h: usize) -> usize
     requires { (n ≤ 128) × (h ≤ 200) }
@@ -225,21 +107,156 @@ fn source_size(mask: bool, n: usize, h: usize) -> usize
     h * (8 * n)
 }
 
+// What a block is made from: n strips of h rows, of pixels, or of a plane's bytes where `mask` is true.
+#[derive(Clone, Copy, Debug)]
+struct Source<'a> {
+    rows: &'a [u8],
+    mask: bool,
+    n: usize,
+    h: usize,
+    ghost given: { Given mask n h (length rows.now) },
+}
+
+impl Source<'_> {
+    ghost use Rattle.block_writer.specs.Source.{body_of};
+
+    // The body of strip k of a picture at the front of `out`: its length.
+    fn write_pixels(&self, k: usize, out: &mut [u8]) -> usize
+        requires picture { self.now.mask ≡ false }
+        requires strip_in { k < self.now.n }
+        requires room { length (body_of self.now k) ≤ length out.old }
+        ensures len { result ≡ length (body_of self.now k) }
+        ensures written { out.new ≡ over (body_of self.now k) out.old }
+    {
+        let mut strip = [0u8; 1600];
+        gather_pixels(self.rows, 8 * self.n, self.h, k, &mut strip);
+        strip_writer::write_strip(&strip[..8 * self.h], out)
+    }
+
+    // The body of strip k of a plane at the front of `out`: its length, 0 where it has none.
+    fn write_rows(&self, k: usize, out: &mut [u8]) -> usize
+        requires plane { self.now.mask ≡ true }
+        requires strip_in { k < self.now.n }
+        requires room { length (body_of self.now k) ≤ length out.old }
+        ensures len { result ≡ length (body_of self.now k) }
+        ensures written { out.new ≡ over (body_of self.now k) out.old }
+    {
+        let mut strip = [0u8; 200];
+        gather_rows(self.rows, self.n, self.h, k, &mut strip);
+        strip_writer::write_rows(&strip[..self.h], out)
+    }
+
+    // The body of strip k at the front of `out`: its length, 0 where it has none.
+    fn write_body(&self, k: usize, out: &mut [u8]) -> usize
+        requires strip_in { k < self.now.n }
+        requires room { length (body_of self.now k) ≤ length out.old }
+        ensures len { result ≡ length (body_of self.now k) }
+        ensures written { out.new ≡ over (body_of self.now k) out.old }
+    {
+        if self.mask {
+            self.write_rows(k, out)
+        } else {
+            self.write_pixels(k, out)
+        }
+    }
+
+    // The length of the body of strip k of a picture, counted and not written.
+    fn pixels_size(&self, k: usize) -> usize
+        requires picture { self.now.mask ≡ false }
+        requires strip_in { k < self.now.n }
+        ensures { result ≡ length (body_of self.now k) }
+    {
+        let mut strip = [0u8; 1600];
+        gather_pixels(self.rows, 8 * self.n, self.h, k, &mut strip);
+        strip_writer::strip_size(&strip[..8 * self.h])
+    }
+
+    // The length of the body of strip k. One of a plane is written to be measured, into a scratch that has room for the longest.
+    fn body_size(&self, k: usize) -> usize
+        requires strip_in { k < self.now.n }
+        ensures len { result ≡ length (body_of self.now k) }
+        ensures few { result ≤ 2001 }
+    {
+        if self.mask {
+            let mut scratch = [0u8; 267];
+            self.write_rows(k, &mut scratch)
+        } else {
+            self.pixels_size(k)
+        }
+    }
+
+    // The length of all bodies.
+    fn bodies_size(&self) -> usize
+        ensures len { result ≡ length (bodies_from (body_of self.now) 0 self.now.n) }
+        ensures few { result ≤ 2001 * self.now.n }
+    {
+        let mut sum: usize = 0;
+        for k in 0..self.n {
+            sum += self.body_size(k);
+        }
+        sum
+    }
+
+    // Whether a block has room in a target of `room` bytes. It is measured only where the longest bodies would not have room: a caller who lends
+    // the most that a block can take has it written in one pass.
+    fn has_room(&self, room: usize) -> bool
+        ensures { result ≡ leb (size_of self.now.mask self.now.n (body_of self.now)) room }
+    {
+        let table = 8 + offset_size(self.mask) * self.n;
+        if table + body_most(self.mask, self.h) * self.n <= room {
+            return true;
+        }
+        let size = table + self.bodies_size();
+        size <= room
+    }
+
+    // The table and the bodies, after a header of 8 bytes: where they end.
+    fn write_strips(&self, out: &mut [u8]) -> usize
+        requires room { size_of self.now.mask self.now.n (body_of self.now) ≤ length out.old }
+        ensures size { result ≡ size_of self.now.mask self.now.n (body_of self.now) }
+        ensures written { out.new ≡ over (take 8 out.old
+            ++ (table_from self.now.mask (body_of self.now) 0 self.now.n (table_end self.now.mask self.now.n)
+            ++ bodies_from (body_of self.now) 0 self.now.n)) out.old }
+    {
+        let size = offset_size(self.mask);
+        let mut at = 8 + size * self.n;
+        for k in 0..self.n {
+            let len = self.write_body(k, &mut out[at..]);
+            put_offset(out, self.mask, 8 + size * k, offset_of(len, at));
+            at += len;
+        }
+        at
+    }
+}
+
 // A block into `out`; 4 where the source or the target is too short.
-fn write_block(src: &[u8], tag: usize, mask: bool, n: usize, h: usize, out: &mut [u8]) -> Wrote
+fn write_block(
+    src: &[u8],
+    tag: usize,
+    mask: bool,
+    n: usize,
+    h: usize,
+    out: &mut [u8],
+) -> Result<usize, Refusal>
     requires { (1 ≤ h) × (h ≤ 200) × (1 ≤ n) × (n ≤ 128) }
     ensures { Answered (block_outcome tag mask n h src.now (length out.old)) out.old out.new result }
 {
     if src.len() < source_size(mask, n, h) {
-        return Wrote::Refused(4);
+        return Err(Reason::BufferShort.into());
     }
-    if has_room(src, mask, n, h, out.len()) {
-        let size = write_strips(src, mask, n, h, out);
-        put_be32(out, 0, tag);
-        put_be32(out, 4, size);
-        return Wrote::Block(size);
+    let source = Source {
+        rows: src,
+        mask,
+        n,
+        h,
+    };
+    if !source.has_room(out.len()) {
+        return Err(Reason::BufferShort.into());
     }
-    Wrote::Refused(4)
+    let size = source.write_strips(out);
+    put_be32(out, 0, tag);
+    put_be32(out, 4, size);
+    Ok(size)
 }
 
 // Whether a width and a height are allowed.
@@ -250,28 +267,28 @@ fn sizes_allowed(w: u32, h: u32) -> bool
 }
 
 // The SMAP block of w × h pixels, pixel (x, y) at y × w + x of `rows`, into `out`: its length, or 3, or 4.
-pub fn write_smap(rows: &[u8], out: &mut [u8], w: u32, h: u32) -> Wrote
+pub fn write_smap(rows: &[u8], out: &mut [u8], w: u32, h: u32) -> Result<usize, Refusal>
     ensures { Answered (smap_outcome w h rows.now (length out.old)) out.old out.new result }
 {
-    if sizes_allowed(w, h) {
-        return write_block(rows, 0x534D4150, false, (w / 8) as usize, h as usize, out);
+    if !sizes_allowed(w, h) {
+        return Err(Reason::OutOfSize.into());
     }
-    Wrote::Refused(3)
+    write_block(rows, 0x534D4150, false, (w / 8) as usize, h as usize, out)
 }
 
 // The block ZP0k of one plane, row y of strip s at y × w / 8 + s of `rows`, into `out`: its length, or 3, or 4.
-pub fn write_plane(rows: &[u8], out: &mut [u8], w: u32, h: u32, k: u32) -> Wrote
+pub fn write_plane(rows: &[u8], out: &mut [u8], w: u32, h: u32, k: u32) -> Result<usize, Refusal>
     ensures { Answered (plane_outcome k w h rows.now (length out.old)) out.old out.new result }
 {
-    if sizes_allowed(w, h) & ((1 <= k) & (k <= 4)) {
-        return write_block(
-            rows,
-            0x5A503030 + (k as usize),
-            true,
-            (w / 8) as usize,
-            h as usize,
-            out,
-        );
+    if !(sizes_allowed(w, h) & ((1 <= k) & (k <= 4))) {
+        return Err(Reason::OutOfSize.into());
     }
-    Wrote::Refused(3)
+    write_block(
+        rows,
+        0x5A503030 + (k as usize),
+        true,
+        (w / 8) as usize,
+        h as usize,
+        out,
+    )
 }

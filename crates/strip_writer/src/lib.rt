@@ -15,7 +15,7 @@ use std::num::{wrapping_add_u8, wrapping_sub_u8};
 // ---- strips of pixels
 
 // A place among the bits that are written: the bit buffer `hold`, its number of bits, lowest first, and the bytes before `at` done.
-#[derive(Clone, Copy)]
+#[derive(Clone, Copy, Debug, PartialEq, Eq)]
 pub struct BitWriter {
     pub at: usize,
     pub bits: u32,
@@ -23,7 +23,7 @@ pub struct BitWriter {
 }
 
 // An operation: `count` bits, lowest first, as a number, and the step after it.
-#[derive(Clone, Copy)]
+#[derive(Clone, Copy, Debug, PartialEq, Eq)]
 pub struct Op {
     pub count: u32,
     pub value: u32,
@@ -41,14 +41,14 @@ fn op_for(colour: u8, step: u8, v: u8) -> Op
         return Op {
             count: 1,
             value: 0,
-            step: step,
+            step,
         };
     }
     let turn = wrapping_sub_u8(colour, v);
     if 3 <= wrapping_add_u8(turn, 1) {
         return Op {
             count: 10,
-            value: 1 + 4 * (v as u32),
+            value: 1 + 4 * u32::from(v),
             step: 1,
         };
     }
@@ -56,7 +56,7 @@ fn op_for(colour: u8, step: u8, v: u8) -> Op
         return Op {
             count: 3,
             value: 3,
-            step: step,
+            step,
         };
     }
     Op {
@@ -121,7 +121,7 @@ fn put_bits(out: &mut [u8], writer: BitWriter, count: u32, value: u32) -> BitWri
     let full = BitWriter {
         at: writer.at,
         bits: bits + count,
-        hold: writer.hold + ((value as u64) << bits),
+        hold: writer.hold + (u64::from(value) << bits),
     };
     if bits + count < 32 {
         return full;
@@ -169,6 +169,7 @@ pub fn write_strip(px: &[u8], out: &mut [u8]) -> usize
     };
     let mut colour = first;
     let mut step: u8 = 1;
+    // A step is two pixels, and one may be left: `chunks_exact` and its remainder would be no plainer.
     let mut i: usize = 1;
     while i + 1 < px.len() {
         let next = px[i + 1];
@@ -206,33 +207,32 @@ pub fn strip_size(px: &[u8]) -> usize
     ensures { result ≡ length (strip_body px.now) }
 {
     let mut bits: u16 = 0;
-    let mut i: usize = 1;
-    while i < px.len() {
+    for i in 1..px.len() {
         bits += op_size(px[i - 1], px[i]);
-        i += 1;
     }
-    2 + ((bits as usize) + 7) / 8
+    2 + (usize::from(bits) + 7) / 8
 }
 
 // ---- strips of mask rows
 
+// The most rows that one operation brings.
+const LONGEST_RUN: usize = 127;
+
+const LONGEST_LITERAL: usize = 127;
+
 // How many rows from y on equal the row at y, at most 127.
+// (Tried as a chain of `take`, `take_while` and `count`, and slower: a plane took up to a fifth longer.)
 fn run_length(rows: &[u8], y: usize) -> usize
     requires { y < length rows.now }
     ensures { result ≡ run_length 127 (slice_index rows.now y) (drop y rows.now) }
 {
     let b = rows[y];
-    let mut n: usize = 0;
-    while n < 127 {
-        if rows.len() <= y + n {
+    for n in 0..LONGEST_RUN {
+        if rows.len() <= y + n || rows[y + n] != b {
             return n;
         }
-        if rows[y + n] != b {
-            return n;
-        }
-        n += 1;
     }
-    n
+    LONGEST_RUN
 }
 
 // How many rows from y on stand before the next place where two equal rows begin, at most 127.
@@ -240,8 +240,7 @@ fn literal_length(rows: &[u8], y: usize) -> usize
     requires { y < length rows.now }
     ensures { result ≡ literal_length 127 (drop y rows.now) }
 {
-    let mut m: usize = 0;
-    while m < 127 {
+    for m in 0..LONGEST_LITERAL {
         let next = m + 1;
         if rows.len() <= y + next {
             return next;
@@ -249,13 +248,12 @@ fn literal_length(rows: &[u8], y: usize) -> usize
         if rows[y + m] == rows[y + next] {
             return m;
         }
-        m = next;
     }
-    m
+    LONGEST_LITERAL
 }
 
 // The rows from y on are to be written at `at`.
-#[derive(Clone, Copy)]
+#[derive(Clone, Copy, Debug, PartialEq, Eq)]
 pub struct Place {
     pub y: usize,
     pub at: usize,
@@ -304,10 +302,8 @@ fn all_zero(rows: &[u8]) -> bool
     ensures { result ≡ all_zero rows.now }
 {
     let mut zero = true;
-    let mut y: usize = 0;
-    while y < rows.len() {
-        zero = zero & (rows[y] == 0);
-        y += 1;
+    for row in rows {
+        zero &= *row == 0;
     }
     zero
 }

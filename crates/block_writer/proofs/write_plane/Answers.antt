@@ -4,24 +4,23 @@ use Rattle.block_writer.proofs.CallLaws.{sizes}
 use Rattle.block_writer.specs.Call.{sizes_allowed, plane_outcome}
 use Rattle.block_writer.proofs.write_plane.Goals as goal
 
+pub returns-then-not-sizes_allowed-k : goal.returns-then-not-sizes_allowed-k
+unfolding plane_outcome
+returns-then-not-sizes_allowed-k c =
+    let a = c.args in
+    let t = ap (λ (b : Bool). b && (leb 1 a.k && leb a.k 4)) (sym c.sizes_allowed.ensures) ∙ c.if-not-sizes_allowed-k.true in
+    rw (c.into.ensures, t) (refl, refl)
+
 pub write_block-requires : goal.write_block-requires
 write_block-requires c =
     let a = c.args in
-    let t = ap (λ (b : Bool). b && (leb 1 a.k && leb a.k 4)) (sym c.sizes_allowed.ensures) ∙ c.if-sizes_allowed-k.true in
+    let t = ap (λ (b : Bool). b && (leb 1 a.k && leb a.k 4)) (sym c.sizes_allowed.ensures) ∙ c.if-not-sizes_allowed-k.false in
     let s = sizes a.w a.h (both (sizes_allowed a.w a.h) (leb 1 a.k && leb a.k 4) t).0 in
     (s.one, s.high, omega (arith, s.wide), omega (arith, s.narrow))
-
-pub returns-then-sizes_allowed-k : goal.returns-then-sizes_allowed-k
-unfolding plane_outcome
-returns-then-sizes_allowed-k c =
-    let write-block = c.write_block in let if1 = c.if-sizes_allowed-k in
-    let sizes-allowed = c.sizes_allowed in let a = c.args in
-    let t = ap (λ (b : Bool). b && (leb 1 a.k && leb a.k 4)) (sym sizes-allowed.ensures) ∙ if1.true in
-    rw t write-block.ensures
 
 pub returns : goal.returns
 unfolding plane_outcome
 returns c =
     let a = c.args in
-    let t = ap (λ (b : Bool). b && (leb 1 a.k && leb a.k 4)) (sym c.sizes_allowed.ensures) ∙ c.if-sizes_allowed-k.false in
-    rw t (refl, refl)
+    let t = ap (λ (b : Bool). b && (leb 1 a.k && leb a.k 4)) (sym c.sizes_allowed.ensures) ∙ c.if-not-sizes_allowed-k.false in
+    rw t c.write_block.ensures

@@ -1,12 +1,6 @@
-use Rattle.std.proofs.Common.{◌≡◌, ℕ, suc, ◌+◌, ◌-◌, drop, sym, ap, ◌∙◌, zero-le, add-zero, zero-add, arith}
+use Rattle.std.proofs.Common.{◌≡◌, suc, ◌+◌, ◌-◌, arith}
 use Rattle.strip_writer.proofs.CountLaws.{literal_over, literal_last, literal_pair, literal_goes}
-use Rattle.strip_writer.specs.Rows.{literal_length}
 use Rattle.strip_writer.proofs.literal_length.Goals as goal
-
-pub loop-m-init : goal.loop-m-init
-loop-m-init c =
-    let a = c.args in
-    (zero-le, omega arith, sym (zero-add _ ∙ ap (λ (k : ℕ). literal_length 127 (drop k a.rows.now)) (add-zero a.y)))
 
 pub returns-then-rows-y : goal.returns-then-rows-y
 returns-then-rows-y c =
@@ -35,4 +29,6 @@ loop-m-preserved c =
     )
 
 pub returns : goal.returns
-returns c = literal_over _ _ _ (c.args.y + c.loop-m.m) c.args.rows.now c.loop-m.invariant.2 (omega arith)
+returns c =
+    let m : c.loop-m.m ≡ 127 = omega arith in
+    rw m at (literal_over _ (127 - c.loop-m.m) _ (c.args.y + c.loop-m.m) c.args.rows.now c.loop-m.invariant.2 (omega arith))

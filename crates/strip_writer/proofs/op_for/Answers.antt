@@ -14,9 +14,10 @@ returns-then-wrapping_add_u8-ge3 c =
     let a = c.args in let pre = c.requires in
     let m : minus a.colour a.v ≡ wrapping-sub-u8.result = minus_of _ _ _ (search rules) wrapping-sub-u8.type_inv wrapping-sub-u8.ensures.value in
     let far = subst (λ (k : ℕ). 3 ≤ k) c.wrapping_add_u8.ensures.value c.if-wrapping_add_u8-ge3.true in
-    op_new _ _ _ if1.false
+    let wide : c.from.result ≡ a.v = cc in
+    rw wide (op_new _ _ _ if1.false
     (far_down _ _ _ (search rules) (search rules) m _ (search rules) (pre) far)
-    (far_up _ _ _ (search rules) (search rules) m _ (search rules) (pre) far) (search rules)
+    (far_up _ _ _ (search rules) (search rules) m _ (search rules) (pre) far) (search rules))
 
 pub returns-then-turn-step : goal.returns-then-turn-step
 returns-then-turn-step c =

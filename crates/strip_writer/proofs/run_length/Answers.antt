@@ -1,18 +1,14 @@
-use Rattle.std.proofs.Common.{◌≡◌, ℕ, suc, ◌+◌, ◌-◌, get_or, drop, sym, ap, ◌∙◌, zero-le, add-zero, zero-add, arith}
+use Rattle.std.proofs.Common.{◌≡◌, suc, ◌+◌, ◌-◌, arith}
 use Rattle.strip_writer.proofs.CountLaws.{run-over, run_ends, run_breaks, run-goes}
-use Rattle.strip_writer.specs.Rows.{run_length}
+use Rattle.strip_writer.proofs.run_length.Goals.{then-rows-y-via-then-rows-y, then-rows-y-via-else-rows-y+then-rows-y-2}
 use Rattle.strip_writer.proofs.run_length.Goals as goal
 
-pub loop-n-init : goal.loop-n-init
-loop-n-init c =
-    let a = c.args in
-    (zero-le, omega arith, sym (zero-add _ ∙ ap (λ (k : ℕ). run_length 127 (get_or a.rows.now a.y 0) (drop k a.rows.now)) (add-zero a.y)))
-
 pub returns-then-rows-y : goal.returns-then-rows-y
-returns-then-rows-y c = run_ends _ _ _ _ _ _ c.loop-n.invariant.2 c.if-rows-y.true
-
-pub returns-then-rows-y-2 : goal.returns-then-rows-y-2
-returns-then-rows-y-2 c = run_breaks _ _ _ _ _ _ c.loop-n.invariant.2 c.if-rows-y.false c.if-rows-y-2.true
+returns-then-rows-y c =
+    elim c.then-rows-y.branch [
+      | then-rows-y-via-then-rows-y w ↦ run_ends _ _ _ _ _ _ c.loop-n.invariant.2 w.if-rows-y.true
+      | then-rows-y-via-else-rows-y+then-rows-y-2 w ↦ run_breaks _ _ _ _ _ _ c.loop-n.invariant.2 w.if-rows-y.false w.if-rows-y-2.true
+    ]
 
 pub loop-n-preserved : goal.loop-n-preserved
 loop-n-preserved c =
@@ -25,5 +21,5 @@ loop-n-preserved c =
 
 pub returns : goal.returns
 returns c =
-    let loop = c.loop-n in let args = c.args in
-    run-over _ _ _ _ (args.y + loop.n) args.rows.now loop.invariant.2 (omega arith)
+    let n : c.loop-n.n ≡ 127 = omega arith in
+    rw n at (run-over _ (127 - c.loop-n.n) _ _ (c.args.y + c.loop-n.n) c.args.rows.now c.loop-n.invariant.2 (omega arith))

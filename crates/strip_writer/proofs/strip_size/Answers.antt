@@ -1,10 +1,7 @@
-use Rattle.std.proofs.Common.{◌≡◌, ◌+◌, ◌-◌, length, get_or, ap, le_refl, zero-add, arith}
+use Rattle.std.proofs.Common.{◌≡◌, ◌+◌, ◌-◌, length, get_or, ap, arith}
 use Rattle.strip_writer.proofs.WritingLaws.{length-strip, ops_end, count-more}
 use Rattle.strip_writer.proofs.SizeLaws.{bits-few}
 use Rattle.strip_writer.proofs.strip_size.Goals as goal
-
-pub loop-i-init : goal.loop-i-init
-loop-i-init c = (le_refl 1, omega arith, le_refl 10, zero-add _)
 
 pub overflow_add-bits : goal.overflow_add-bits
 overflow_add-bits c =
@@ -27,4 +24,5 @@ returns c =
     let px = c.args.px.now in
     let l = c.loop-i in
     let z = ap length (ops_end (get_or px (l.i - 1) 0) 1 px l.i c.loop-i-test.false) in
-    omega (arith, z, l.invariant.3, length-strip px c.requires.0)
+    let wide : c.from.result ≡ l.bits = cc in
+    omega (arith, z, wide, l.invariant.3, length-strip px c.requires.0)
