@@ -1,7 +1,6 @@
 -- A small room worked out, so that the definitions are seen at work. Assumes nothing.
-use Rattle.std.proofs.Common.{◌≡◌, refl, List, [], ◌∷◌, true, false, ℕ}
+use Rattle.std.proofs.Common.{◌≡◌, refl, List, [], ◌∷◌, true, false, ℕ, Some, None, Ok, Err}
 use Rattle.block.specs.Tree.{block_end, walk, run, tagged, payload}
-use Rattle.block.specs.declared.Found.TheVariants.{At, Missing}
 use Rattle.bits.specs.Bits.{low_bits, bits_of}
 use Rattle.strip.specs.Strip.{decode}
 use Rattle.strip.specs.Picture.{five_from, kind_of, placed, coded_of, strip_of}
@@ -9,7 +8,6 @@ use Rattle.plane.specs.Mask.{rows_of}
 use Rattle.table.specs.Table.{offset_at, offset_right, offsets_right, table_right}
 use Rattle.table.specs.Body.{body_end, body_of, strip_at, rows_at, mask_at}
 use Rattle.table.specs.Test.{strip_test, leftmost, block_test}
-use Rattle.table.specs.declared.Test.TheVariants.{Passed, Refused}
 use Rattle.room.specs.Picture.{plane_test, smap_and_planes_test}
 use Rattle.objects.specs.Object.{object_block}
 use Rattle.image.specs.Image.{object_count, object_id, has_id, first_of, image_block, image_count, home_x, home_y, image_width, image_height, state_block, drawable}
@@ -44,8 +42,8 @@ room =
     []
 
 -- ids, and images: the first OBIM of equal id, if any; an object that is not there has none
-images : (object_count room ≡ 2) × (object_id room 1 ≡ 7) × (object_id room 2 ≡ 8) × (image_block room 1 ≡ At 69 136) × (image_block room 2 ≡ Missing)
-    × (image_block room 0 ≡ Missing) × (image_block room 3 ≡ Missing)
+images : (object_count room ≡ 2) × (object_id room 1 ≡ 7) × (object_id room 2 ≡ 8) × (image_block room 1 ≡ Some (69, 136)) × (image_block room 2 ≡ None)
+    × (image_block room 0 ≡ None) × (image_block room 3 ≡ None)
 unfolding object_id image_block object_block first_of has_id tagged run walk block_end payload
 images = (refl, refl, refl, refl, refl, refl, refl)
 
@@ -56,7 +54,7 @@ unfolding home_x home_y image_width image_height image_count object_id image_blo
 header = (refl, refl, refl, refl, refl, refl, refl)
 
 -- states: IM01 of the first OBIM; IM02 is above its numImages, and stands in the second
-states : (state_block room 1 1 ≡ At 101 136) × (state_block room 1 2 ≡ Missing) × (drawable room 1 1 ≡ true) × (drawable room 1 0 ≡ false) ×
+states : (state_block room 1 1 ≡ Some (101, 136)) × (state_block room 1 2 ≡ None) × (drawable room 1 1 ≡ true) × (drawable room 1 0 ≡ false) ×
     (drawable room 1 2 ≡ false)
     × (drawable room 2 1 ≡ false) × (drawable room 0 1 ≡ false) × (drawable room 3 1 ≡ false)
 unfolding drawable state_block image_count object_id image_block object_block first_of has_id tagged run walk block_end payload
@@ -72,7 +70,7 @@ unfolding image_colour image_clear image_bits image_strip image_fault image_test
 pixels = (refl, refl, refl, refl, refl)
 
 -- the image passes with any count of planes; one without SMAP is 2: here the payload of the OBIM of id 9
-faults : (image_fault 0 room 1 1 ≡ Passed) × (image_fault 4 room 1 1 ≡ Passed) × (image_test 1 1 1 room 16 40 ≡ Refused 2)
+faults : (image_fault 0 room 1 1 ≡ Ok tt) × (image_fault 4 room 1 1 ≡ Ok tt) × (image_test 1 1 1 room 16 40 ≡ Err 2)
 unfolding image_fault image_test smap_and_planes_test plane_test block_test table_right offsets_right offset_right leftmost strip_test strip_at body_of
     body_end offset_at strip_of coded_of placed kind_of five_from decode low_bits bits_of rows_at rows_of state_block image_width image_height object_id
     image_block object_block first_of has_id tagged run walk block_end payload

@@ -1,13 +1,11 @@
 -- Laws of objects and their images: where they lie, and which states there are.
-use Rattle.std.proofs.Common.{◌≡◌, refl, sym, ◌∙◌, List, [], ◌∷◌, Bool, true, false, ◌&&◌, cond, not, ℕ, suc, ◌+◌, ◌-◌, ◌≤◌, arith, leb, get_or, length, ne_eqb, leb-true}
+use Rattle.std.proofs.Common.{◌≡◌, refl, sym, ◌∙◌, List, [], ◌∷◌, Bool, true, false, ◌&&◌, cond, not, ℕ, suc, ◌+◌, ◌-◌, ◌≤◌, arith, leb, get_or, length, ne_eqb, leb-true, Option, Some, None, is_some}
 use mathlib.Core.Path.{subst⁻¹}
 use mathlib.Core.Bool.{and-false}
 use borrow.Author.Tests.{not-true, not-false}
 use Rattle.number.proofs.BoolLaws.{and_left, and_right}
 use Rattle.block.specs.Tag.{tag-OBCD, tag-OBIM, tag-IM}
 use Rattle.block.specs.Tree.{tagged, nth_tag, find_tag, is_at, Inside}
-use Rattle.block.specs.declared.Found.{Found}
-use Rattle.block.specs.declared.Found.TheVariants.{At, Missing}
 use Rattle.block.proofs.Laws.{nth_in}
 use Rattle.objects.specs.Object.{object_block}
 use Rattle.image.specs.Image.{object_count, object_id, has_id, first_of, image_block, state_in, state_block, is_object, state_right, image_count, drawable}
@@ -32,7 +30,8 @@ module _ (s : List ℕ) where
   unfolding image_block
   image-of o one le = rw (object_there o one le)
 
-  first_in : (P : Found → Type 0) → P Missing → (passes : Found → Bool) (l : List Found) → ((k : ℕ) → P (get_or l k Missing)) → P (first_of passes l)
+  first_in : (P : Option (ℕ × ℕ) → Type 0) → P None → (passes : Option (ℕ × ℕ) → Bool) (l : List (Option (ℕ × ℕ))) → ((k : ℕ) → P (get_or l k None))
+      → P (first_of passes l)
   unfolding first_of
   first_in P m passes [] h = m
   first_in P m passes (f ∷ l) h = go (passes f) (first_in P m passes l (λ k. h (suc k)))
@@ -46,28 +45,28 @@ module _ (s : List ℕ) where
   unfolding image_block
   image_in o = go (is_at (object_block s o))
     where
-      go : (q : Bool) → Inside 8 (length s) (cond q (first_of (has_id s (object_id s o)) (tagged tag-OBIM s 8 (length s))) Missing)
+      go : (q : Bool) → Inside 8 (length s) (cond q (first_of (has_id s (object_id s o)) (tagged tag-OBIM s 8 (length s))) None)
       go true = first_in (Inside 8 (length s)) tt (has_id s (object_id s o)) (tagged tag-OBIM s 8 (length s)) (λ k. nth_in tag-OBIM s 8 (length s) k)
       go false = tt
 
-  end_in : (f : Found) → Inside 8 (length s) f → end_of f ≤ length s
-  end_in (At b z) i = i.2
-  end_in Missing i = omega arith
+  end_in : (f : Option (ℕ × ℕ)) → Inside 8 (length s) f → end_of f ≤ length s
+  end_in (Some (b, z)) i = i.2
+  end_in None i = omega arith
 
   pub image-end : (o : ℕ) → end_of (image_block s o) ≤ length s
   image-end o = end_in (image_block s o) (image_in o)
 
   -- the block of a state, from where the OBIM's payload stands
-  none_in : (st : ℕ) (f : Found) → start_of f ≡ 0 → Missing ≡ state_in s st f
-  none_in st (At b z) h = absurd (omega arith)
-  none_in st Missing h = refl
+  none_in : (st : ℕ) (f : Option (ℕ × ℕ)) → start_of f ≡ 0 → None ≡ state_in s st f
+  none_in st (Some (b, z)) h = absurd (omega arith)
+  none_in st None h = refl
 
-  some_in : (st : ℕ) (f : Found) → (start_of f ≡ 0 → ⊥) → find_tag (tag-IM st) s (start_of f) (end_of f) ≡ state_in s st f
-  some_in st (At b z) h = refl
-  some_in st Missing h = absurd (h refl)
+  some_in : (st : ℕ) (f : Option (ℕ × ℕ)) → (start_of f ≡ 0 → ⊥) → find_tag (tag-IM st) s (start_of f) (end_of f) ≡ state_in s st f
+  some_in st (Some (b, z)) h = refl
+  some_in st None h = absurd (h refl)
 
   module _ (o st start : ℕ) (starts : start ≡ start_of (image_block s o)) where
-    pub state_none : start ≡ 0 → Missing ≡ state_block s o st
+    pub state_none : start ≡ 0 → None ≡ state_block s o st
     unfolding state_block
     state_none h = none_in st (image_block s o) (sym starts ∙ h)
 
@@ -76,22 +75,22 @@ module _ (s : List ℕ) where
     state_some h end ends = rw (starts, ends) (some_in st (image_block s o) (λ e. h (starts ∙ e)))
 
   -- a state's block lies in the room
-  state_held : (st : ℕ) (f : Found) → Inside 8 (length s) f → Inside 16 (length s) (state_in s st f)
-  state_held st (At b z) i = go (find_tag (tag-IM st) s (b + 8) z) (nth_in (tag-IM st) s (b + 8) z 0)
+  state_held : (st : ℕ) (f : Option (ℕ × ℕ)) → Inside 8 (length s) f → Inside 16 (length s) (state_in s st f)
+  state_held st (Some (b, z)) i = go (find_tag (tag-IM st) s (b + 8) z) (nth_in (tag-IM st) s (b + 8) z 0)
     where
-      go : (f : Found) → Inside (b + 8) z f → Inside 16 (length s) f
-      go (At b' z') j = omega arith
-      go Missing j = tt
-  state_held st Missing i = tt
+      go : (f : Option (ℕ × ℕ)) → Inside (b + 8) z f → Inside 16 (length s) f
+      go (Some (b', z')) j = omega arith
+      go None j = tt
+  state_held st None i = tt
 
-  pub state-at : (o st b z : ℕ) → At b z ≡ state_block s o st → (16 ≤ b) × (b + 8 ≤ z) × (z ≤ length s)
+  pub state-at : (o st b z : ℕ) → Some (b, z) ≡ state_block s o st → (16 ≤ b) × (b + 8 ≤ z) × (z ≤ length s)
   unfolding state_block
   state-at o st b z h = subst⁻¹ (Inside 16 (length s)) h (state_held st (image_block s o) (image_in o))
 
   -- a state's block is in an image
-  has_image : (st : ℕ) (f : Found) → is_at (state_in s st f) ≡ true → is_at f ≡ true
-  has_image st (At b z) h = refl
-  has_image st Missing h = h
+  has_image : (st : ℕ) (f : Option (ℕ × ℕ)) → is_at (state_in s st f) ≡ true → is_at f ≡ true
+  has_image st (Some (b, z)) h = refl
+  has_image st None h = h
 
   -- what the tests of an object and of a state say
   pub object_right : (o : ℕ) → is_object s o ≡ true → (1 ≤ o) × (o ≤ object_count s)
@@ -117,16 +116,23 @@ module _ (s : List ℕ) where
     unfolding drawable
     drawable_state images e h = rw (← e, h, and-false (is_object s o && is_at (image_block s o)))
 
-    pub drawable_missing : Missing ≡ state_block s o st → false ≡ drawable s o st
+    pub drawable_missing : None ≡ state_block s o st → false ≡ drawable s o st
     unfolding drawable
     drawable_missing h = rw (← h, and-false (is_object s o && is_at (image_block s o) && state_right st (image_count s o)))
 
-    pub drawable_at : (images b z : ℕ) → images ≡ image_count s o → is_object s o ≡ true → state_right st images ≡ true → At b z ≡ state_block s o st → true ≡
+    pub drawable_at : (images b z : ℕ) → images ≡ image_count s o → is_object s o ≡ true → state_right st images ≡ true
+        → Some (b, z) ≡ state_block s o st → true ≡
         drawable s o st
     unfolding drawable state_block
     drawable_at images b z e h g at =
         let there : is_at (state_in s st (image_block s o)) ≡ true = rw (← at) in
         rw (h, has_image st (image_block s o) there, ← e, g, there)
+
+    -- the same, whether the state's block is there or not
+    pub drawable_block : (images : ℕ) → images ≡ image_count s o → is_object s o ≡ true → state_right st images ≡ true
+        → (f : Option (ℕ × ℕ)) → f ≡ state_block s o st → is_some f ≡ drawable s o st
+    drawable_block images e h g (Some (b, z)) at = drawable_at images b z e h g at
+    drawable_block images e h g None at = drawable_missing at
 
 pub state_bound : (st images : ℕ) → state_right st images ≡ true → st ≤ 9
 state_bound st images h = leb-true st 9 (and_right (leb 1 st) (leb st 9) (and_left (leb 1 st && leb st 9) (leb st images) h))

@@ -1,18 +1,16 @@
 -- Laws of an image's pixels: what they are in the blocks that were found.
-use Rattle.std.proofs.Common.{◌≡◌, List, ℕ, ◌+◌}
+use Rattle.std.proofs.Common.{◌≡◌, List, ℕ, ◌+◌, Some, Ok}
 use Rattle.block.specs.Tag.{tag-SMAP}
 use Rattle.block.specs.Tree.{find_tag}
-use Rattle.block.specs.declared.Found.TheVariants.{At}
 use Rattle.table.specs.Body.{strip_at}
-use Rattle.table.specs.declared.Test.TheVariants.{Passed}
 use Rattle.room.specs.Picture.{plane_in, found_mask}
 use Rattle.image.specs.Image.{image_height, state_block}
 use Rattle.image.specs.Fault.{image_fault}
 use Rattle.image.specs.Pixel.{image_strips, image_strip, image_bits}
 
-module _ (planes : ℕ) (s : List ℕ) (o st b z : ℕ) (at : At b z ≡ state_block s o st) (passed : image_fault planes s o st ≡ Passed) where
+module _ (planes : ℕ) (s : List ℕ) (o st b z : ℕ) (at : Some (b, z) ≡ state_block s o st) (passed : image_fault planes s o st ≡ Ok tt) where
   -- a strip is that of the state's SMAP
-  pub image_strip_at : (smap end : ℕ) → At smap end ≡ find_tag tag-SMAP s (b + 8) z → (j : ℕ)
+  pub image_strip_at : (smap end : ℕ) → Some (smap, end) ≡ find_tag tag-SMAP s (b + 8) z → (j : ℕ)
       → image_strip planes s o st j ≡ strip_at (image_strips s o) (image_height s o) s smap end j
   unfolding image_strip
   image_strip_at smap end found j = rw (passed, ← at, ← found)

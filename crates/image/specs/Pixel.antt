@@ -1,15 +1,11 @@
 -- The pixels and masks of an object's image (document 01, "Sessions", "Painting afresh"): strip j, row r, column c of the image of
 -- object o in state st, and plane k of the room, which has `planes`. An image is read where it passes its test; one that is refused has no
 -- pixels and no bits.
-use Rattle.std.specs.Prelude.{ℕ, ◌+◌, ◌*◌, ◌/◌, List, Bool, false, ◌&&◌, get_or, eqb}
+use Rattle.std.specs.Prelude.{ℕ, ◌+◌, ◌*◌, ◌/◌, List, Bool, false, ◌&&◌, get_or, eqb, Option, Some, None, Result, Ok, Err}
 use Rattle.block.specs.Tag.{tag-SMAP}
 use Rattle.block.specs.Tree.{find_tag}
-use Rattle.block.specs.declared.Found.{Found}
-use Rattle.block.specs.declared.Found.TheVariants.{At, Missing}
 use Rattle.strip.specs.Picture.{Picture, refusal, picture}
 use Rattle.table.specs.Body.{strip_at, pixels_of}
-use Rattle.table.specs.declared.Test.{Test}
-use Rattle.table.specs.declared.Test.TheVariants.{Passed, Refused}
 use Rattle.room.specs.Picture.{plane_in, found_mask}
 use Rattle.image.specs.Image.{image_width, image_height, state_block}
 use Rattle.image.specs.Fault.{image_fault}
@@ -19,23 +15,23 @@ abbrev pub image_strips : List ℕ → ℕ → ℕ
 image_strips s o = image_width s o / 8
 
 -- the SMAP block, and the block of plane k, in a state's block
-abbrev pub smap_of : List ℕ → Found → Found
-smap_of s (At b z) = find_tag tag-SMAP s (b + 8) z
-smap_of s Missing = Missing
+abbrev pub smap_of : List ℕ → Option (ℕ × ℕ) → Option (ℕ × ℕ)
+smap_of s (Some (b, z)) = find_tag tag-SMAP s (b + 8) z
+smap_of s None = None
 
-abbrev pub plane_of : List ℕ → ℕ → Found → Found
-plane_of s k (At b z) = plane_in s (b + 8) z k
-plane_of s k Missing = Missing
+abbrev pub plane_of : List ℕ → ℕ → Option (ℕ × ℕ) → Option (ℕ × ℕ)
+plane_of s k (Some (b, z)) = plane_in s (b + 8) z k
+plane_of s k None = None
 
 -- strip j of an SMAP block that was found
-abbrev pub strip_of : (n h : ℕ) → List ℕ → ℕ → Found → Picture
-strip_of n h s j (At b z) = strip_at n h s b z j
-strip_of n h s j Missing = refusal 2
+abbrev pub strip_of : (n h : ℕ) → List ℕ → ℕ → Option (ℕ × ℕ) → Picture
+strip_of n h s j (Some (b, z)) = strip_at n h s b z j
+strip_of n h s j None = refusal 2
 
 -- what is read of an image, by its test
-abbrev pub when_passed : {A : Type 0} → Test → (read : A) (unread : ℕ → A) → A
-when_passed Passed read unread = read
-when_passed (Refused n) read unread = unread n
+abbrev pub when_passed : {A : Type 0} → Result (Unit {0}) ℕ → (read : A) (unread : ℕ → A) → A
+when_passed (Ok tt) read unread = read
+when_passed (Err n) read unread = unread n
 
 unfoldable pub image_strip : (planes : ℕ) → List ℕ → (o st j : ℕ) → Picture
 image_strip planes s o st j =

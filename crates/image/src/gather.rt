@@ -6,7 +6,7 @@ ghost use Rattle.image.specs.Rows.{object_row};
 
 use crate::row::{image_row, object_row, offer_row, put_row};
 use block::tags::{IMHD, OBCD, OBIM};
-use block::{Found, find_tag, need_tag};
+use block::{find_tag, need_tag};
 
 // Puts the rows of the objects, with no image, or with their boxes; and counts them.
 pub fn list_objects(room: &[u8], boxes: bool, table: &mut [u32]) -> usize
@@ -17,33 +17,26 @@ pub fn list_objects(room: &[u8], boxes: bool, table: &mut [u32]) -> usize
     let end = room.len();
     let mut at: usize = 8;
     let mut n: usize = 0;
-    loop {
-        match find_tag(room, at, end, OBCD) {
-            Found::At(b, z) => {
-                let row = object_row(room, boxes, b, z);
-                n += 1;
-                put_row(table, n, &row);
-                at = z;
-            }
-            Found::Missing => {
-                return n;
-            }
-        }
+
+    // No `for`: the step is a block's length.
+    while let Some((b, z)) = find_tag(room, at, end, OBCD) {
+        let row = object_row(room, boxes, b, z);
+        n += 1;
+        put_row(table, n, &row);
+        at = z;
     }
+    n
 }
 
 // Puts the OBIM [b, z) for each object of its id that has no image yet.
 fn offer_image(room: &[u8], table: &mut [u32], objects: usize, b: usize, z: usize)
     requires block_in_room { (b + 8 ≤ z) × (z ≤ length room.now) × (length room.now ≤ 1048576) }
     requires table_fits { (objects ≤ 128) × (1032 ≤ length table.old) }
-    ensures { Offered room.now table.old table.new objects (Found.At b z) }
+    ensures { Offered room.now table.old table.new objects (Some (b, z)) }
 {
-    match need_tag(room, b + 8, z, IMHD, 16) {
-        Found::At(p, _) => {
-            let row = image_row(room, p, b + 8, z);
-            offer_row(table, objects, &row);
-        }
-        Found::Missing => {}
+    if let Some((p, _)) = need_tag(room, b + 8, z, IMHD, 16) {
+        let row = image_row(room, p, b + 8, z);
+        offer_row(table, objects, &row);
     }
 }
 
@@ -54,16 +47,9 @@ fn pair_images(room: &[u8], table: &mut [u32], objects: usize)
 {
     let end = room.len();
     let mut at: usize = 8;
-    loop {
-        match find_tag(room, at, end, OBIM) {
-            Found::At(b, z) => {
-                offer_image(room, table, objects, b, z);
-                at = z;
-            }
-            Found::Missing => {
-                return;
-            }
-        }
+    while let Some((b, z)) = find_tag(room, at, end, OBIM) {
+        offer_image(room, table, objects, b, z);
+        at = z;
     }
 }
 

@@ -4,22 +4,16 @@ ghost use Rattle.number.specs.Number.{le16};
 ghost use Rattle.image.specs.Gathered.{row_from, RowPut, RowOffered};
 ghost use Rattle.image.specs.Rows.{header_row, object_row};
 
+use block::need_tag;
 use block::tags::CDHD;
-use block::{Found, need_tag};
 use number::read_le16;
-
-fn number(x: u8) -> u32
-    ensures { (result ≡ x) × (result < 256) }
-{
-    x as u32
-}
 
 // Byte n of the header at p.
 fn byte_at(room: &[u8], p: usize, n: usize) -> u32
     requires { (n < 13) × (p + 13 ≤ length room.now) }
     ensures { (result ≡ get_or room.now (p + n) 0) × (result < 256) }
 {
-    number(room[p + n])
+    u32::from(room[p + n])
 }
 
 // Byte n of the header at p, a count of strips, in pixels.
@@ -33,7 +27,7 @@ fn pixels_at(room: &[u8], p: usize, n: usize) -> u32
 // The row of an object whose CDHD has its payload at p: its id and no image; or its box, flags and parent.
 fn header_row(room: &[u8], boxes: bool, p: usize) -> [u32; 8]
     requires { p + 13 ≤ length room.now }
-    ensures { result ≡ header_row boxes room.now (Found.At p 0) }
+    ensures { result ≡ header_row boxes room.now (Some (p, 0)) }
 {
     if !boxes {
         let id = read_le16(room, p) as u32;
@@ -51,18 +45,18 @@ fn header_row(room: &[u8], boxes: bool, p: usize) -> [u32; 8]
 // The row of an object whose OBCD is [b, z).
 pub fn object_row(room: &[u8], boxes: bool, b: usize, z: usize) -> [u32; 8]
     requires { (b + 8 ≤ z) × (z ≤ length room.now) }
-    ensures { result ≡ object_row boxes room.now (Found.At b z) }
+    ensures { result ≡ object_row boxes room.now (Some (b, z)) }
 {
     match need_tag(room, b + 8, z, CDHD, 13) {
-        Found::At(p, _) => header_row(room, boxes, p),
-        Found::Missing => [0, 0, 0, 0, 0, 0, 0, 0],
+        Some((p, _)) => header_row(room, boxes, p),
+        None => [0; 8],
     }
 }
 
 // The row of an object whose OBIM has its IMHD at `p` and ends at `z`.
 pub fn image_row(room: &[u8], p: usize, start: usize, z: usize) -> [u32; 8]
     requires { (p + 16 ≤ length room.now) × (start ≤ 1048576) × (z ≤ 1048576) }
-    ensures { result ≡ row_from room.now (le16 room.now p) (Found.At p z) start z }
+    ensures { result ≡ row_from room.now (le16 room.now p) (Some (p, z)) start z }
 {
     let id = read_le16(room, p) as u32;
     let x = read_le16(room, p + 8) as u32;
@@ -78,12 +72,7 @@ pub fn put_row(table: &mut [u32], o: usize, row: &[u32; 8])
     requires { (o ≤ 128) × (1032 ≤ length table.old) }
     ensures { RowPut table.old table.new o row.now }
 {
-    let at = 8 * o;
-    let mut c: usize = 0;
-    while c < 8 {
-        table[at + c] = row[c];
-        c += 1;
-    }
+    table[8 * o..8 * o + 8].copy_from_slice(row);
 }
 
 // Puts the row for each object of its id that has no image yet.
@@ -91,13 +80,9 @@ pub fn offer_row(table: &mut [u32], objects: usize, row: &[u32; 8])
     requires { (objects ≤ 128) × (1032 ≤ length table.old) }
     ensures { RowOffered table.old table.new objects row.now }
 {
-    let mut o: usize = 1;
-    while o <= objects {
-        if (row[0] == table[8 * o]) & (table[8 * o + 6] == 0) {
+    for o in 1..=objects {
+        if row[0] == table[8 * o] && table[8 * o + 6] == 0 {
             put_row(table, o, row);
-            o += 1;
-        } else {
-            o += 1;
         }
     }
 }

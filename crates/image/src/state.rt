@@ -3,18 +3,18 @@ ghost use Rattle.std.specs.Prelude.{◌≡◌, ◌≤◌};
 ghost use Rattle.image.specs.Image.{object_count, state_right, state_block, drawable};
 ghost use Rattle.image.specs.Gathered.{Gathered};
 
+use block::find_tag;
 use block::tags::IM00;
-use block::{Found, find_tag};
 
 // The block of the image of object o in state st.
-pub fn state_block(room: &[u8], table: &[u32], o: usize, st: usize) -> Found
+pub fn state_block(room: &[u8], table: &[u32], o: usize, st: usize) -> Option<(usize, usize)>
     requires { Gathered room.now table.now × (1 ≤ o) × (o ≤ object_count room.now) × (st ≤ 9) }
     ensures { result ≡ state_block room.now o st }
 {
     let start = table[8 * o + 6] as usize;
     let end = table[8 * o + 7] as usize;
     if start == 0 {
-        return Found::Missing;
+        return None;
     }
     find_tag(room, start, end, IM00 + st)
 }
@@ -37,8 +37,5 @@ pub fn image_drawable(room: &[u8], table: &[u32], objects: usize, o: usize, st: 
     if !state_right(st, table[8 * o + 5] as usize) {
         return false;
     }
-    match state_block(room, table, o, st) {
-        Found::At(_, _) => true,
-        Found::Missing => false,
-    }
+    state_block(room, table, o, st).is_some()
 }

@@ -2,18 +2,24 @@
 ghost use Rattle.std.specs.Prelude.{◌≡◌, ◌≤◌, length};
 ghost use Rattle.image.specs.Fault.{image_test};
 
+use block::find_tag;
 use block::tags::SMAP;
-use block::{Found, find_tag};
+use refusal::{Reason, Refusal};
 use room::picture::test_im;
-use table::Test;
 
 // The test of the image of n strips of h rows in the payload [b, z), with planes 1 to `planes`.
-pub fn test_image(room: &[u8], b: usize, z: usize, n: usize, h: usize, planes: usize) -> Test
+#[tactic(auto, unfolding(crate::specs::Fault::image_test))]
+pub fn test_image(
+    room: &[u8],
+    b: usize,
+    z: usize,
+    n: usize,
+    h: usize,
+    planes: usize,
+) -> Result<(), Refusal>
     requires { (n ≤ 128) × (h ≤ 200) × (planes ≤ 4) × (z ≤ length room.now) }
     ensures { result ≡ image_test planes n h room.now b z }
 {
-    let Found::At(smap, end) = find_tag(room, b, z, SMAP) else {
-        return Test::Refused(2);
-    };
+    let (smap, end) = find_tag(room, b, z, SMAP).ok_or(Reason::BlockMissing)?;
     test_im(room, b, z, smap, end, n, h, planes)
 }

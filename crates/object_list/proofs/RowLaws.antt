@@ -1,5 +1,5 @@
 -- Laws of the rows: how many bytes they take, and how they are stored. Assumes nothing.
-use Rattle.std.proofs.Common.{ℕ, zero, suc, ◌+◌, ◌*◌, ◌/◌, ◌^◌, ◌≤◌, ◌<◌, ◌≡◌, refl, sym, ap, ap₂, ◌∙◌, cond, List, [], ◌∷◌, ◌++◌, append_assoc, add-one, arith, length, get_or, take, drop, replicate, length-append, take-append-drop, pow_mono, take_all, get_or-append-add}
+use Rattle.std.proofs.Common.{Bool, true, false, ℕ, ◌%◌, zero, suc, ◌+◌, ◌*◌, ◌/◌, ◌^◌, ◌≤◌, ◌<◌, ◌≡◌, refl, sym, ap, ap₂, ◌∙◌, cond, List, [], ◌∷◌, ◌++◌, append_assoc, add-one, arith, length, get_or, take, drop, replicate, length-append, take-append-drop, pow_mono, take_all, get_or-append-add, Option, Some, Result, Ok, Err}
 use mathlib.Core.Logic.{by_cases}
 use native.Mathlib.Decide.{ℕ_discrete}
 use lib.ListN.{get_or-replicate, get_or-append}
@@ -7,15 +7,10 @@ use lib.Seq.{sets, sets-eq}
 use Rattle.number.specs.Number.{le16_bytes, le32_bytes}
 use Rattle.number.specs.Buffer.{over}
 use Rattle.number.proofs.StoreLaws.{sets-append, sets_is}
-use Rattle.block.specs.declared.Found.{Found}
-use Rattle.block.specs.declared.Found.TheVariants.{At}
 use Rattle.room.specs.declared.Room.{Room}
-use Rattle.room.specs.declared.Tested.TheVariants.{Right}
 use Rattle.room.proofs.TestLaws.{test-passes, flags_long}
 use Rattle.objects.specs.Object.{block_or_absent, object_block, header_in, header_bytes}
 use Rattle.objects.specs.declared.Part.{Part}
-use Rattle.objects.specs.declared.Place.{Place}
-use Rattle.objects.specs.declared.Place.TheVariants as place
 use Rattle.image.specs.Image.{object_count, drawable}
 use Rattle.image.proofs.CountLaws.{objects-counted}
 use Rattle.object_list.specs.List.{header_part, name_part, state_bits, row_with, row_bytes, rows_to, list_test}
@@ -37,12 +32,25 @@ bit_next n bit e = rw (e, add-one n) (omega arith)
 pub bit_few : (n bit : ℕ) → bit ≡ 2 ^ n → n ≤ 9 → bit ≤ 512
 bit_few n bit e le = rw e (pow_mono {i = n} {j = 9} le)
 
+-- one state more, with what the code adds for it
+pub bits_more : (s : List ℕ) (o n bits : ℕ) → n < 9 → (bits ≡ state_bits s o n) × (bits + 1 ≤ 2 ^ n) → (set : Bool) → set ≡ drawable s o (n + 1) → (more : ℕ)
+    → more ≡ cond set (bits + 1 * 2 ^ n % 18446744073709551616) bits → (more ≡ state_bits s o (n + 1)) × (more + 1 ≤ 2 ^ (n + 1))
+bits_more s o n bits lt now true can more e =
+    let few = bit_few n (2 ^ n) refl (omega arith) in
+    let next = bit_next n (2 ^ n) refl in
+    let added : more ≡ bits + 2 ^ n = omega (arith, e, few) in
+    (added ∙ bits-next s o n bits (2 ^ n) (2 ^ n) now.0 refl (rw (← can)), omega (arith, added, next, now.1))
+bits_more s o n bits lt now false can more e =
+    let next = bit_next n (2 ^ n) refl in
+    let same : more ≡ bits + 0 = omega (arith, e) in
+    (same ∙ bits-next s o n bits (2 ^ n) 0 now.0 refl (rw (← can)), omega (arith, same, next, now.1))
+
 -- ---- one row
 
-pub header-long : (s : List ℕ) (q : Place) → length (header_part s q) ≡ 16
+pub header-long : (s : List ℕ) (q : Result ℕ ℕ) → length (header_part s q) ≡ 16
 unfolding header_bytes
-header-long s (place.At p) = refl
-header-long s (place.Refused n) = refl
+header-long s (Ok p) = refl
+header-long s (Err n) = refl
 
 -- a whole list copied, told by what stands before it and behind it
 pub copied : (src l l' : List ℕ) (at n : ℕ) → length src ≡ n → at + n ≤ length l → take (at + n) l' ≡ take at l ++ take n (drop 0 src)
@@ -95,7 +103,7 @@ module _ (header : List ℕ) (long : length header ≡ 16) (name : Part) (states
       next_put (fourth ++ (0 ∷ 0 ∷ [])) (0 ∷ 0 ∷ 0 ∷ 0 ∷ []) l₀ l₅ l₆ at (at + 28) (omega (arith, last)) q₅ p₆
       ∙ ap (sets l₀ at) (append_assoc fourth (0 ∷ 0 ∷ []) (0 ∷ 0 ∷ 0 ∷ 0 ∷ []))
 
-module _ (s : List ℕ) (block : Found) (states : ℕ) where
+module _ (s : List ℕ) (block : Option (ℕ × ℕ)) (states : ℕ) where
   abbrev header_here : List ℕ
   header_here = header_part s (header_in s (block_or_absent block))
 
@@ -127,8 +135,8 @@ module _ (s : List ℕ) where
   rows_start l = refl
 
   -- one object more
-  pub rows_more : (n b z states : ℕ) (l₀ l l' : List ℕ) → At b z ≡ object_block s (n + 1) → states ≡ state_bits s (n + 1) 9 → l ≡ sets l₀ 0 (rows_to s n)
-      → l' ≡ sets l (32 * n) (row_with s (At b z) states) → l' ≡ sets l₀ 0 (rows_to s (n + 1))
+  pub rows_more : (n b z states : ℕ) (l₀ l l' : List ℕ) → Some (b, z) ≡ object_block s (n + 1) → states ≡ state_bits s (n + 1) 9 → l ≡ sets l₀ 0 (rows_to s n)
+      → l' ≡ sets l (32 * n) (row_with s (Some (b, z)) states) → l' ≡ sets l₀ 0 (rows_to s (n + 1))
   unfolding rows_to
   rows_more n b z states l₀ l l' block bits was put =
       let own : l' ≡ sets l (32 * n) (row_bytes s (n + 1)) = rw (← block, ← bits) put in
@@ -182,7 +190,7 @@ module _ (header : List ℕ) (long : length header ≡ 16) (name : Part) (states
   zero_byte i lt =
       behind (fourth header long name states) (replicate 6 0) 26 i (fourth_long header long name states) ∙ get_or-replicate 6 i 0 0 lt
 
-module _ (s : List ℕ) (block : Found) (states : ℕ) where
+module _ (s : List ℕ) (block : Option (ℕ × ℕ)) (states : ℕ) where
   abbrev here : List ℕ
   here = header_part s (header_in s (block_or_absent block))
 
@@ -226,7 +234,7 @@ row_byte s (suc n) rest k j lt lj =
 -- ---- the call
 
 -- what a test that passes says of the room and of what is lent
-pub listed : (s lent rows : List ℕ) (r : Room) → Right r ≡ list_test s lent rows
+pub listed : (s lent rows : List ℕ) (r : Room) → Ok r ≡ list_test s lent rows
     → (16 ≤ length lent) × (32 * r.objects ≤ length rows) × (length s ≤ 1048576) × (r.objects ≤ 128) × (r.objects ≡ object_count s)
 listed s lent rows r right =
     let passes = test-passes _ s r right in

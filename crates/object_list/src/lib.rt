@@ -7,7 +7,7 @@ pub mod states;
 
 ghost use Rattle.std.specs.Prelude.{◌≡◌, ◌*◌, ◌≤◌, length};
 ghost use Rattle.number.specs.Buffer.{over};
-ghost use Rattle.room.specs.Test.{number_of};
+ghost use Rattle.refusal.specs.Answer.{done};
 ghost use Rattle.objects.specs.Record.{record_after};
 ghost use Rattle.image.specs.Image.{object_count};
 ghost use Rattle.image.specs.Gathered.{Gathered};
@@ -15,11 +15,11 @@ ghost use Rattle.object_list.specs.List.{rows_to, list_test, rows_after};
 
 use crate::row::put_row;
 use crate::states::state_bits;
+use block::find_tag;
 use block::tags::OBCD;
-use block::{Found, find_tag};
 use image::gather::gather;
 use objects::record::{put_front, record_bytes};
-use room::Tested;
+use refusal::Refusal;
 use room::test::{flags_lent, test_room};
 
 // The rows of all objects, in one walk over ROOM's blocks.
@@ -30,18 +30,13 @@ fn put_rows(room: &[u8], table: &[u32], objects: usize, rows: &mut [u8])
     let end = room.len();
     let mut at: usize = 8;
     let mut n: usize = 0;
-    loop {
-        match find_tag(room, at, end, OBCD) {
-            Found::At(b, z) => {
-                let states = state_bits(room, table, objects, n + 1);
-                put_row(room, b, z, states, rows, 32 * n);
-                n += 1;
-                at = z;
-            }
-            Found::Missing => {
-                return;
-            }
-        }
+
+    // No `for`: the step is a block's length.
+    while let Some((b, z)) = find_tag(room, at, end, OBCD) {
+        let states = state_bits(room, table, objects, n + 1);
+        put_row(room, b, z, states, rows, 32 * n);
+        n += 1;
+        at = z;
     }
 }
 
@@ -55,21 +50,16 @@ fn list_rows(room: &[u8], objects: usize, rows: &mut [u8])
     put_rows(room, &table, objects, rows);
 }
 
-// The listing of a room, its record into `out`: 0, or the number of the refusal.
-pub fn list(room: &[u8], out: &mut [u8], rows: &mut [u8]) -> u32
-    ensures number { result ≡ number_of (list_test room.now out.old rows.old) }
+// The listing of a room, its record into `out`, or the refusal.
+pub fn list(room: &[u8], out: &mut [u8], rows: &mut [u8]) -> Result<(), Refusal>
+    ensures answer { result ≡ done (list_test room.now out.old rows.old) }
     ensures record_after { out.new
         ≡ record_after (list_test room.now out.old rows.old) out.old }
     ensures rows_after { rows.new
         ≡ rows_after room.now (list_test room.now out.old rows.old) rows.old }
 {
-    match test_room(room, flags_lent(16, out.len(), rows.len() / 32)) {
-        Tested::Right(r) => {
-            let bytes = record_bytes(r);
-            put_front(&bytes, out);
-            list_rows(room, r.objects, rows);
-            0
-        }
-        Tested::Refused(number) => number as u32,
-    }
+    let tested = test_room(room, flags_lent(16, out.len(), rows.len() / 32))?;
+    put_front(&record_bytes(tested), out);
+    list_rows(room, tested.objects, rows);
+    Ok(())
 }

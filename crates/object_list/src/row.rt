@@ -4,10 +4,8 @@ ghost use Rattle.std.proofs.lemmas.List.Edits.{sets};
 ghost use Rattle.objects.specs.Object.{cdhd_in};
 ghost use Rattle.object_list.specs.List.{header_part, row_with};
 
-use block::Found;
 use number::buffer::{copy, put_four, put_two};
 use number::{put_le16, put_le32};
-use objects::Place;
 use objects::name::part_in;
 use objects::object::{cdhd_in, header_bytes};
 
@@ -17,15 +15,15 @@ fn header_part(room: &[u8], b: usize, z: usize) -> [u8; 16]
     ensures { result ≡ header_part room.now (cdhd_in room.now b z) }
 {
     match cdhd_in(room, b, z) {
-        Place::At(p) => header_bytes(room, p),
-        Place::Refused(_) => [0; 16],
+        Ok(p) => header_bytes(room, p),
+        Err(_) => [0; 16],
     }
 }
 
 // The row of that object, with the states that can be drawn, from `at` on.
 pub fn put_row(room: &[u8], b: usize, z: usize, states: usize, rows: &mut [u8], at: usize)
     requires { (b + 8 ≤ z) × (z ≤ length room.now) × (at + 32 ≤ length rows.old) × (at ≤ 4096) }
-    ensures { rows.new ≡ sets rows.old at (row_with room.now (Found.At b z) states) }
+    ensures { rows.new ≡ sets rows.old at (row_with room.now (Some (b, z)) states) }
 {
     let header = header_part(room, b, z);
     let name = part_in(room, b, z);

@@ -6,27 +6,16 @@ ghost use Rattle.object_list.specs.List.{state_bits};
 
 use image::state::image_drawable;
 
-fn bit_if(set: bool, bit: usize) -> usize
-    ensures { (result ≡ cond set bit 0) × (result ≤ bit) }
-{
-    if set {
-        return bit;
-    }
-    0
-}
-
 // Which of states 1 to 9 of object o can be drawn, bit st − 1 for state st.
 pub fn state_bits(room: &[u8], table: &[u32], objects: usize, o: usize) -> usize
     requires { Gathered room.now table.now × (objects ≡ object_count room.now) }
     ensures { result ≡ state_bits room.now o 9 }
 {
-    let mut bits: usize = 0;
-    let mut bit: usize = 1;
-    let mut n: usize = 0;
-    while n < 9 {
-        bits += bit_if(image_drawable(room, table, objects, o, n + 1), bit);
-        bit = 2 * bit;
-        n += 1;
+    let mut bits = 0;
+    for n in 0..9 {
+        if image_drawable(room, table, objects, o, n + 1) {
+            bits += 1 << n;
+        }
     }
     bits
 }

@@ -1,11 +1,9 @@
 -- Laws of names: the first NUL, and where a name lies.
-use Rattle.std.proofs.Common.{◌≡◌, refl, List, Bool, true, false, cond, ℕ, zero, suc, ◌+◌, ◌-◌, ◌*◌, ◌≤◌, ◌<◌, arith, eqb, get_or, length, take, drop, ne_eqb, eq-eqb}
+use Rattle.std.proofs.Common.{◌≡◌, refl, List, Bool, true, false, cond, ℕ, zero, suc, ◌+◌, ◌-◌, ◌*◌, ◌≤◌, ◌<◌, arith, eqb, get_or, length, take, drop, ne_eqb, eq-eqb, Option, Some, None}
 use mathlib.Core.Path.{subst⁻¹}
 use Rattle.block.specs.Tag.{tag-OBNA}
 use Rattle.block.specs.Tree.{need_tag}
 use Rattle.objects.specs.Name.{nul_from, before_nul, name_in, part_at, part_of, place_word}
-use Rattle.block.specs.declared.Found.{Found}
-use Rattle.block.specs.declared.Found.TheVariants.{At, Missing}
 use Rattle.block.proofs.Laws.{Held, need_in}
 
 module _ (s : List ℕ) where
@@ -35,24 +33,24 @@ module _ (s : List ℕ) where
       go false h i = rw (← nul_suc (suc n) n p false refl h) (omega arith)
 
   -- a name that is found lies in the room
-  abbrev Named : Found → Type 0
-  Named (At a z) = (a ≤ z) × (z ≤ length s)
-  Named Missing = Unit {0}
+  abbrev Named : Option (ℕ × ℕ) → Type 0
+  Named (Some (a, z)) = (a ≤ z) × (z ≤ length s)
+  Named None = Unit {0}
 
-  named_nul : (a e : ℕ) (f : Found) → e ≤ length s → Held 0 a e f → Named (before_nul s f)
+  named_nul : (a e : ℕ) (f : Option (ℕ × ℕ)) → e ≤ length s → Held 0 a e f → Named (before_nul s f)
   unfolding before_nul
-  named_nul a e (At p z) l i = omega (arith, nul_in (z - p) p)
-  named_nul a e Missing l i = tt
+  named_nul a e (Some (p, z)) l i = omega (arith, nul_in (z - p) p)
+  named_nul a e None l i = tt
 
-  pub name_at : (b z a e : ℕ) → z ≤ length s → At a e ≡ name_in s b z → (a ≤ e) × (e ≤ length s)
+  pub name_at : (b z a e : ℕ) → z ≤ length s → Some (a, e) ≡ name_in s b z → (a ≤ e) × (e ≤ length s)
   unfolding name_in
   name_at b z a e l h = subst⁻¹ Named h (named_nul (b + 8) z (need_tag tag-OBNA 0 s (b + 8) z) l (need_in tag-OBNA 0 s (b + 8) z))
 
   -- the part, as the place tells it
-  pub part_bytes : (f : Found) → take (part_at f).count (drop (part_at f).start s) ≡ part_of s f
-  part_bytes (At a z) = refl
-  part_bytes Missing = refl
+  pub part_bytes : (f : Option (ℕ × ℕ)) → take (part_at f).count (drop (part_at f).start s) ≡ part_of s f
+  part_bytes (Some (a, z)) = refl
+  part_bytes None = refl
 
-pub part-word : (f : Found) → (part_at f).start + (part_at f).count * 4294967296 ≡ place_word f
-part-word (At a z) = refl
-part-word Missing = refl
+pub part-word : (f : Option (ℕ × ℕ)) → (part_at f).start + (part_at f).count * 4294967296 ≡ place_word f
+part-word (Some (a, z)) = refl
+part-word None = refl

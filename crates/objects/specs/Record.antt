@@ -1,10 +1,8 @@
 -- The room's record (docs/LAYOUTS.md): W, H, N and the object count as little-endian u16, the transparent index, and zeros to 16 bytes.
-use Rattle.std.specs.Prelude.{ℕ, ◌/◌, ◌%◌, List, [], ◌∷◌, length}
+use Rattle.std.specs.Prelude.{ℕ, ◌/◌, ◌%◌, List, [], ◌∷◌, length, Result, Ok, Err}
 use Rattle.number.specs.Buffer.{over}
 use Rattle.room.specs.Test.{room_test, fixed_only}
 use Rattle.room.specs.declared.Room.{Room}
-use Rattle.room.specs.declared.Tested.{Tested}
-use Rattle.room.specs.declared.Tested.TheVariants.{Right, Refused}
 
 -- the low and the high byte of a u16
 abbrev pub low : ℕ → ℕ
@@ -34,10 +32,10 @@ record_bytes r =
     ∷ []
 
 -- the lent record after the call: a refusal changes nothing, and bytes past the 16 stay
-abbrev pub record_after : Tested → List ℕ → List ℕ
-record_after (Right r) lent = over (record_bytes r) lent
-record_after (Refused n) lent = lent
+abbrev pub record_after : Result Room ℕ → List ℕ → List ℕ
+record_after (Ok r) lent = over (record_bytes r) lent
+record_after (Err n) lent = lent
 
 -- the test that the call makes: the record is 16 bytes
-abbrev pub record_test : List ℕ → List ℕ → Tested
+abbrev pub record_test : List ℕ → List ℕ → Result Room ℕ
 record_test s lent = room_test (fixed_only 16 (length lent)) s

@@ -7,7 +7,7 @@ pub mod object;
 pub mod record;
 
 // What an object's CDHD says. Place and sizes are in strips of 8 pixels; the walk point is in pixels.
-#[derive(Clone, Copy)]
+#[derive(Clone, Copy, Debug, PartialEq, Eq)]
 pub struct Cdhd {
     pub id: usize,
     pub x: usize,
@@ -22,22 +22,8 @@ pub struct Cdhd {
 }
 
 // A part of the room: its first byte, and how many bytes it has.
-#[derive(Clone, Copy)]
+#[derive(Clone, Copy, Debug, PartialEq, Eq)]
 pub struct Part {
     pub start: usize,
     pub count: usize,
-}
-
-// The OBCD of the object that a call names, or the number of the refusal.
-#[derive(Clone, Copy)]
-pub enum Chosen {
-    Block(usize, usize),
-    Refused(u8),
-}
-
-// Where an object's CDHD payload stands, or the number of the refusal.
-#[derive(Clone, Copy)]
-pub enum Place {
-    At(usize),
-    Refused(u8),
 }

@@ -1,49 +1,40 @@
 -- Laws of a room's head: where the needed blocks lie, and what holds of a room without the refusals 1 to 3.
-use Rattle.std.proofs.Common.{◌≡◌, refl, List, Bool, true, false, ◌&&◌, cond, ℕ, ◌+◌, ◌%◌, ◌≤◌, arith, leb-true, eqb-true, length, leb, eqb}
+use Rattle.std.proofs.Common.{◌≡◌, refl, List, Bool, true, false, ◌&&◌, cond, ℕ, ◌+◌, ◌%◌, ◌≤◌, arith, leb-true, eqb-true, length, leb, eqb, Option, Some, None, Result, Ok, Err}
 use mathlib.Core.Path.{subst⁻¹}
 use Rattle.number.proofs.BoolLaws.{and_left, and_right}
 use Rattle.block.specs.Tag.{tag-RMHD, tag-RMIM, tag-RMIH, tag-IM00, tag-SMAP}
 use Rattle.block.specs.Tree.{well_formed, need_tag, find_tag}
-use Rattle.block.specs.declared.Found.{Found}
-use Rattle.block.specs.declared.Found.TheVariants.{At, Missing}
 use Rattle.block.proofs.Laws.{need_at, nth_at, formed_small}
 use Rattle.room.specs.Head.{when_found, both_found, headed_in, with_header}
 use Rattle.room.specs.Head.{background_in, needed_in, objects_right, trns_in, holds_index, sizes_right, room_of, sized, head_in, head_of, Sound}
 use Rattle.room.specs.declared.Parts.{Parts}
-use Rattle.room.specs.declared.Headed.{Headed}
-use Rattle.room.specs.declared.Headed.TheVariants.{Both}
-use Rattle.room.specs.declared.Headed.TheVariants as headed
-use Rattle.room.specs.declared.Needed.{Needed}
-use Rattle.room.specs.declared.Needed.TheVariants as needed
 use Rattle.room.specs.declared.Room.{Room}
-use Rattle.room.specs.declared.Tested.{Tested}
-use Rattle.room.specs.declared.Tested.TheVariants.{Right, Refused}
 
--- what holds of Missing, and of each way on, holds of the whole
-module _ (P : Needed → Type 0) (m : P needed.Missing) where
-  or_missing : (f : Found) (next : ℕ → ℕ → Needed) → ((a z : ℕ) → At a z ≡ f → P (next a z)) → P (when_found f next)
-  or_missing (At a z) next h = h a z refl
-  or_missing Missing next h = m
+-- what holds of None, and of each way on, holds of the whole
+module _ (P : Option Parts → Type 0) (m : P None) where
+  or_missing : (f : Option (ℕ × ℕ)) (next : ℕ → ℕ → Option Parts) → ((a z : ℕ) → Some (a, z) ≡ f → P (next a z)) → P (when_found f next)
+  or_missing (Some (a, z)) next h = h a z refl
+  or_missing None next h = m
 
-  with-header : (f : Headed) (next : ℕ → ℕ → ℕ → Needed) → ((hd a z : ℕ) → Both hd a z ≡ f → P (next hd a z)) → P (with_header f next)
-  with-header (Both hd a z) next h = h hd a z refl
-  with-header headed.Missing next h = m
+  with-header : (f : Option (ℕ × ℕ × ℕ)) (next : ℕ → ℕ → ℕ → Option Parts) → ((hd a z : ℕ) → Some (hd, a, z) ≡ f → P (next hd a z)) → P (with_header f next)
+  with-header (Some (hd, a, z)) next h = h hd a z refl
+  with-header None next h = m
 
 -- where a header and the block beside it lie, in the list [a, e)
 module _ (t n u : ℕ) (s : List ℕ) (a e : ℕ) where
-  abbrev BothLie : Headed → Type 0
-  BothLie (Both hd b z) = (hd + n ≤ e) × (b ≤ z) × (z ≤ e)
-  BothLie headed.Missing = Unit {0}
+  abbrev BothLie : Option (ℕ × ℕ × ℕ) → Type 0
+  BothLie (Some (hd, b, z)) = (hd + n ≤ e) × (b ≤ z) × (z ≤ e)
+  BothLie None = Unit {0}
 
-  both_lie : (f g : Found) → f ≡ need_tag t n s a e → g ≡ need_tag u 0 s a e → BothLie (both_found f g)
-  both_lie (At hd hd-end) (At b z) p q =
+  both_lie : (f g : Option (ℕ × ℕ)) → f ≡ need_tag t n s a e → g ≡ need_tag u 0 s a e → BothLie (both_found f g)
+  both_lie (Some (hd, hd-end)) (Some (b, z)) p q =
       let i = need_at _ _ _ _ _ _ _ p in
       let j = need_at _ _ _ _ _ _ _ q in
       (omega arith, omega arith, omega arith)
-  both_lie (At hd hd-end) Missing p q = tt
-  both_lie Missing g p q = tt
+  both_lie (Some (hd, hd-end)) None p q = tt
+  both_lie None g p q = tt
 
-  pub headed_lies : (hd b z : ℕ) → Both hd b z ≡ headed_in t n u s a e → (hd + n ≤ e) × (b ≤ z) × (z ≤ e)
+  pub headed_lies : (hd b z : ℕ) → Some (hd, b, z) ≡ headed_in t n u s a e → (hd + n ≤ e) × (b ≤ z) × (z ≤ e)
   unfolding headed_in
   headed_lies hd b z h = subst⁻¹ BothLie h (both_lie (need_tag t n s a e) (need_tag u 0 s a e) refl refl)
 
@@ -57,9 +48,9 @@ pub record Lies (s : List ℕ) (p : Parts) : Type 0 where
   pub smap-last : p.smap_end ≤ length s
 
 module _ (s : List ℕ) where
-  abbrev AllLie : Needed → Type 0
-  AllLie (needed.All p) = Lies s p
-  AllLie needed.Missing = Unit {0}
+  abbrev AllLie : Option Parts → Type 0
+  AllLie (Some p) = Lies s p
+  AllLie None = Unit {0}
 
   background-lies : (hd im e : ℕ) → hd + 6 ≤ length s → e ≤ length s → AllLie (background_in s hd im e)
   unfolding background_in
@@ -84,11 +75,11 @@ module _ (s : List ℕ) where
       let i = headed_lies _ _ _ _ _ _ _ _ _ h in
       background-lies hd im im-end (omega arith) (omega arith)
 
-  pub parts_lie : (p : Parts) → needed.All p ≡ needed_in s → Lies s p
+  pub parts_lie : (p : Parts) → Some p ≡ needed_in s → Lies s p
   parts_lie p h = subst⁻¹ AllLie h needed_lies
 
 -- where the room's TRNS lies
-pub trns_lies : (s : List ℕ) (b z : ℕ) → At b z ≡ trns_in s → (b + 8 ≤ z) × (z ≤ length s)
+pub trns_lies : (s : List ℕ) (b z : ℕ) → Some (b, z) ≡ trns_in s → (b + 8 ≤ z) × (z ≤ length s)
 unfolding trns_in
 trns_lies s b z at = let i = nth_at _ _ _ _ _ _ _ at in (omega (arith, i), omega (arith, i))
 
@@ -119,13 +110,13 @@ module _ (w h n objects : ℕ) (all : sizes_right w h n objects ≡ true) where
 
 -- a room without the refusals 1 to 3 is sound
 module _ (s : List ℕ) where
-  abbrev AllSound : Tested → Type 0
-  AllSound (Right r) = Sound s r
-  AllSound (Refused n) = Unit {0}
+  abbrev AllSound : Result Room ℕ → Type 0
+  AllSound (Ok r) = Sound s r
+  AllSound (Err n) = Unit {0}
 
   sound_of : length s ≤ 1048576 → (r : Room) (q : Bool) → sizes_right r.width r.height r.planes r.objects ≡ q
       → r.image ≤ r.image_end → r.image_end ≤ length s → r.smap + 8 ≤ r.smap_end → r.smap_end ≤ length s
-      → AllSound (cond q (Right r) (Refused 3))
+      → AllSound (cond q (Ok r) (Err 3))
   sound_of small r true e a b c d =
       let z = sizes_hold r.width r.height r.planes r.objects e in
       record {
@@ -148,21 +139,21 @@ module _ (s : List ℕ) where
   unfolding sized room_of
   sized-sound small p lies = sound_of small (room_of s p) _ refl lies.image_in lies.image_last lies.smap_in lies.smap-last
 
-  in_sound : length s ≤ 1048576 → (f : Needed) → f ≡ needed_in s → AllSound (head_in s f)
-  in_sound small (needed.All p) e = go (objects_right s && holds_index (trns_in s))
+  in_sound : length s ≤ 1048576 → (f : Option Parts) → f ≡ needed_in s → AllSound (head_in s f)
+  in_sound small (Some p) e = go (objects_right s && holds_index (trns_in s))
     where
-      go : (q : Bool) → AllSound (cond q (sized (room_of s p)) (Refused 2))
+      go : (q : Bool) → AllSound (cond q (sized (room_of s p)) (Err 2))
       go true = sized-sound small p (parts_lie s p e)
       go false = tt
-  in_sound small needed.Missing e = tt
+  in_sound small None e = tt
 
   head_holds : AllSound (head_of s)
   unfolding head_of
   head_holds = go (well_formed s) refl
     where
-      go : (q : Bool) → well_formed s ≡ q → AllSound (cond q (head_in s (needed_in s)) (Refused 1))
+      go : (q : Bool) → well_formed s ≡ q → AllSound (cond q (head_in s (needed_in s)) (Err 1))
       go true e = in_sound (formed_small s e) (needed_in s) refl
       go false e = tt
 
-  pub head_sound : (r : Room) → Right r ≡ head_of s → Sound s r
+  pub head_sound : (r : Room) → Ok r ≡ head_of s → Sound s r
   head_sound r h = subst⁻¹ AllSound h head_holds

@@ -1,43 +1,39 @@
 -- Laws of the whole test: what holds of a room that passes it.
-use Rattle.std.proofs.Common.{◌≡◌, refl, List, Bool, true, false, cond, ◌||◌, true≢false, ℕ, ◌*◌, ◌≤◌, ltb-false, ltb}
+use Rattle.std.proofs.Common.{◌≡◌, refl, List, Bool, true, false, cond, ◌||◌, true≢false, ℕ, ◌*◌, ◌≤◌, ltb-false, ltb, Result, Ok, Err}
 use mathlib.Core.Path.{subst⁻¹}
-use Rattle.table.specs.declared.Test.{Test}
-use Rattle.table.specs.declared.Test.TheVariants as test
 use Rattle.room.specs.Head.{head_of, Sound}
 use Rattle.room.specs.Test.{pictures_test, short, room_when_passed, after_head, room_test, fixed_only, with_surfaces, with_flags, strips}
 use Rattle.room.specs.declared.Lent.{Lent}
 use Rattle.room.specs.declared.Room.{Room}
-use Rattle.room.specs.declared.Tested.{Tested}
-use Rattle.room.specs.declared.Tested.TheVariants.{Right, Refused}
 use Rattle.room.proofs.HeadLaws.{head_sound}
 
 -- a room that passes is sound, nothing lent is too short, and its pictures pass
 pub record Passes (lent : Lent) (s : List ℕ) (r : Room) : Type 0 where
   pub sound : Sound s r
   pub enough : short lent r ≡ false
-  pub pictures : pictures_test s r ≡ test.Passed
+  pub pictures : pictures_test s r ≡ Ok tt
 
 module _ (lent : Lent) (s : List ℕ) where
-  abbrev Result : Tested → Type 0
-  Result (Right r) = Passes lent s r
-  Result (Refused n) = Unit {0}
+  abbrev AllPass : Result Room ℕ → Type 0
+  AllPass (Ok r) = Passes lent s r
+  AllPass (Err n) = Unit {0}
 
-  pictures_pass : (r : Room) → Sound s r → short lent r ≡ false → (t : Test) → pictures_test s r ≡ t → Result (room_when_passed t r)
-  pictures_pass r sound enough test.Passed e = record { sound = sound; enough = enough; pictures = e }
-  pictures_pass r sound enough (test.Refused n) e = tt
+  pictures_pass : (r : Room) → Sound s r → short lent r ≡ false → (t : Result (Unit {0}) ℕ) → pictures_test s r ≡ t → AllPass (room_when_passed t r)
+  pictures_pass r sound enough (Ok tt) e = record { sound = sound; enough = enough; pictures = e }
+  pictures_pass r sound enough (Err n) e = tt
 
-  head_passes : (h : Tested) → h ≡ head_of s → Result (after_head lent s h)
+  head_passes : (h : Result Room ℕ) → h ≡ head_of s → AllPass (after_head lent s h)
   unfolding after_head
-  head_passes (Right r) e = go (short lent r) refl
+  head_passes (Ok r) e = go (short lent r) refl
     where
-      go : (q : Bool) → short lent r ≡ q → Result (cond q (Refused 4) (room_when_passed (pictures_test s r) r))
+      go : (q : Bool) → short lent r ≡ q → AllPass (cond q (Err 4) (room_when_passed (pictures_test s r) r))
       go true f = tt
       go false f = pictures_pass r (head_sound s r e) f (pictures_test s r) refl
-  head_passes (Refused n) e = tt
+  head_passes (Err n) e = tt
 
-  pub test-passes : (r : Room) → Right r ≡ room_test lent s → Passes lent s r
+  pub test-passes : (r : Room) → Ok r ≡ room_test lent s → Passes lent s r
   unfolding room_test
-  test-passes r h = subst⁻¹ Result h (head_passes (head_of s) refl)
+  test-passes r h = subst⁻¹ AllPass h (head_passes (head_of s) refl)
 
 -- a buffer of a fixed size that is not too short
 pub fixed_long : (size n : ℕ) (r : Room) → short (fixed_only size n) r ≡ false → size ≤ n

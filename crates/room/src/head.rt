@@ -2,37 +2,39 @@
 ghost use Rattle.std.specs.Prelude.{◌≡◌, true, ◌+◌, ◌≤◌, length};
 ghost use Rattle.room.specs.Head.{headed_in, background_in, needed_in, objects_right, trns_in, holds_index, index_in, room_of, sizes_right, sized, head_of};
 
-use crate::{Headed, Needed, Parts, Room, Tested};
+use crate::{Parts, Room};
 use block::tags::{CDHD, IM00, IMHD, OBCD, OBIM, RMHD, RMIH, RMIM, SMAP, TRNS};
-use block::{Found, count_tag, each_has, find_tag, need_tag};
+use block::{count_tag, each_has, find_tag, need_tag};
 use number::read_le16;
+use refusal::{Reason, Refusal};
 
 // The payloads of the first block with the tag `header`, of `n` bytes or more, and of the first with the tag `body`, in the list [at, end).
-fn need_headed(s: &[u8], at: usize, end: usize, header: usize, n: usize, body: usize) -> Headed
+#[tactic(auto, unfolding(crate::specs::Head::headed_in))]
+fn need_headed(
+    s: &[u8],
+    at: usize,
+    end: usize,
+    header: usize,
+    n: usize,
+    body: usize,
+) -> Option<(usize, usize, usize)>
     requires { end ≤ length s.now }
     ensures { result ≡ headed_in header n body s.now at end }
 {
-    let Found::At(start, _) = need_tag(s, at, end, header, n) else {
-        return Headed::Missing;
-    };
-    let Found::At(a, z) = need_tag(s, at, end, body, 0) else {
-        return Headed::Missing;
-    };
-    Headed::Both(start, a, z)
+    let (start, _) = need_tag(s, at, end, header, n)?;
+    let (a, z) = need_tag(s, at, end, body, 0)?;
+    Some((start, a, z))
 }
 
 // The needed blocks of RMIM's payload [im, end), beside RMHD's payload.
-fn background(s: &[u8], header: usize, im: usize, end: usize) -> Needed
+#[tactic(auto, unfolding(crate::specs::Head::background_in))]
+fn background(s: &[u8], header: usize, im: usize, end: usize) -> Option<Parts>
     requires { end ≤ length s.now }
     ensures { result ≡ background_in s.now header im end }
 {
-    let Headed::Both(image_header, image, image_end) = need_headed(s, im, end, RMIH, 2, IM00) else {
-        return Needed::Missing;
-    };
-    let Found::At(smap, smap_end) = find_tag(s, image, image_end, SMAP) else {
-        return Needed::Missing;
-    };
-    Needed::All(Parts {
+    let (image_header, image, image_end) = need_headed(s, im, end, RMIH, 2, IM00)?;
+    let (smap, smap_end) = find_tag(s, image, image_end, SMAP)?;
+    Some(Parts {
         header,
         image_header,
         image,
@@ -43,16 +45,16 @@ fn background(s: &[u8], header: usize, im: usize, end: usize) -> Needed
 }
 
 // The room's needed blocks.
-fn needed(s: &[u8]) -> Needed
+#[tactic(auto, unfolding(crate::specs::Head::needed_in))]
+fn needed(s: &[u8]) -> Option<Parts>
     ensures { result ≡ needed_in s.now }
 {
-    let Headed::Both(header, im, end) = need_headed(s, 8, s.len(), RMHD, 6, RMIM) else {
-        return Needed::Missing;
-    };
+    let (header, im, end) = need_headed(s, 8, s.len(), RMHD, 6, RMIM)?;
     background(s, header, im, end)
 }
 
 // Whether each OBCD has its CDHD, and each OBIM its IMHD.
+#[tactic(auto, unfolding(crate::specs::Head::objects_right))]
 fn objects_right(s: &[u8]) -> bool
     ensures { result ≡ objects_right s.now }
 {
@@ -60,29 +62,29 @@ fn objects_right(s: &[u8]) -> bool
 }
 
 // Whether TRNS, where there is one, has its byte.
-fn holds_index(s: &[u8], trns: Found) -> bool
+fn holds_index(s: &[u8], trns: Option<(usize, usize)>) -> bool
     requires { trns ≡ trns_in s.now }
     ensures { result ≡ holds_index trns }
 {
     match trns {
-        Found::At(b, z) => b + 8 < z,
-        Found::Missing => true,
+        Some((b, z)) => b + 8 < z,
+        None => true,
     }
 }
 
 // The room's transparent index: TRNS's first byte, 255 where there is none.
-fn index_in(s: &[u8], trns: Found) -> u8
+fn index_in(s: &[u8], trns: Option<(usize, usize)>) -> u8
     requires { (trns ≡ trns_in s.now) × (holds_index trns ≡ true) }
     ensures { result ≡ index_in s.now trns }
 {
     match trns {
-        Found::At(b, _) => s[b + 8],
-        Found::Missing => 255,
+        Some((b, _)) => s[b + 8],
+        None => 255,
     }
 }
 
 // What RMHD, RMIH and TRNS say, with the OBCD blocks counted.
-fn room_of(s: &[u8], p: Parts, trns: Found) -> Room
+fn room_of(s: &[u8], p: Parts, trns: Option<(usize, usize)>) -> Room
     requires headers_inside { (p.header + 6 ≤ length s.now) × (p.image_header + 2 ≤ length s.now) }
     requires trns_found { (trns ≡ trns_in s.now) × (holds_index trns ≡ true) }
     ensures { result ≡ room_of s.now p }
@@ -108,6 +110,7 @@ fn room_of(s: &[u8], p: Parts, trns: Found) -> Room
 }
 
 // Whether the sizes are allowed.
+#[tactic(auto, unfolding(crate::specs::Head::sizes_right))]
 fn sizes_right(w: usize, h: usize, n: usize, objects: usize) -> bool
     ensures { result ≡ sizes_right w h n objects }
 {
@@ -115,33 +118,29 @@ fn sizes_right(w: usize, h: usize, n: usize, objects: usize) -> bool
 }
 
 // Refusal 3.
-fn sized_room(r: Room) -> Tested
+#[tactic(auto, unfolding(crate::specs::Head::sized))]
+fn sized_room(r: Room) -> Result<Room, Refusal>
     ensures { result ≡ sized r }
 {
     if sizes_right(r.width, r.height, r.planes, r.objects) {
-        Tested::Right(r)
+        Ok(r)
     } else {
-        Tested::Refused(3)
+        Err(Reason::OutOfSize.into())
     }
 }
 
 // Refusals 1, 2 and 3, in that order.
-pub fn read_head(s: &[u8]) -> Tested
+#[tactic(auto, unfolding(crate::specs::Head::head_of, crate::specs::Head::trns_in))]
+pub fn read_head(s: &[u8]) -> Result<Room, Refusal>
     ensures { result ≡ head_of s.now }
 {
     if !block::well_formed(s) {
-        return Tested::Refused(1);
+        return Err(Reason::NotARoom.into());
     }
-    match needed(s) {
-        Needed::All(p) => {
-            let trns = find_tag(s, 8, s.len(), TRNS);
-            if objects_right(s) & holds_index(s, trns) {
-                let room = room_of(s, p, trns);
-                sized_room(room)
-            } else {
-                Tested::Refused(2)
-            }
-        }
-        Needed::Missing => Tested::Refused(2),
+    let parts = needed(s).ok_or(Reason::BlockMissing)?;
+    let trns = find_tag(s, 8, s.len(), TRNS);
+    if !(objects_right(s) & holds_index(s, trns)) {
+        return Err(Reason::BlockMissing.into());
     }
+    sized_room(room_of(s, parts, trns))
 }

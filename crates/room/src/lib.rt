@@ -7,7 +7,7 @@ pub mod picture;
 pub mod test;
 
 // Where the needed blocks stand: the payloads of RMHD, RMIH and IM00, and the SMAP block with its header.
-#[derive(Clone, Copy)]
+#[derive(Clone, Copy, Debug, PartialEq, Eq)]
 pub struct Parts {
     pub header: usize,
     pub image_header: usize,
@@ -17,21 +17,8 @@ pub struct Parts {
     pub smap_end: usize,
 }
 
-// Where a header's payload starts, and the payload of the block beside it.
-#[derive(Clone, Copy)]
-pub enum Headed {
-    Both(usize, usize, usize),
-    Missing,
-}
-
-#[derive(Clone, Copy)]
-pub enum Needed {
-    All(Parts),
-    Missing,
-}
-
 // A room's sizes, its transparent index, and where its picture stands: IM00's payload, and the SMAP block with its header.
-#[derive(Clone, Copy)]
+#[derive(Clone, Copy, Debug, PartialEq, Eq)]
 pub struct Room {
     pub width: usize,
     pub height: usize,
@@ -44,15 +31,8 @@ pub struct Room {
     pub smap_end: usize,
 }
 
-// What a test of a room finds.
-#[derive(Clone, Copy)]
-pub enum Tested {
-    Right(Room),
-    Refused(u8),
-}
-
 // The lengths of what a call is lent besides the room. `fixed_short`: a record, a session or a header is shorter than its fixed size.
-#[derive(Clone, Copy)]
+#[derive(Clone, Copy, Debug, PartialEq, Eq)]
 pub struct Lent {
     pub fixed_short: bool,
     pub has_surfaces: bool,

@@ -5,11 +5,12 @@ ghost use Rattle.room.specs.Test.{pictures_test, short, room_test, nothing, fixe
 
 use crate::head::read_head;
 use crate::picture::test_im;
-use crate::{Lent, Room, Tested};
-use table::Test;
+use crate::{Lent, Room};
+use refusal::{Reason, Refusal};
 
 // The tests of the background and of planes 1 to N.
-fn test_pictures(s: &[u8], r: Room) -> Test
+#[tactic(auto, unfolding(crate::specs::Test::pictures_test))]
+fn test_pictures(s: &[u8], r: Room) -> Result<(), Refusal>
     requires { Sound s.now r }
     ensures { result ≡ pictures_test s.now r }
 {
@@ -27,6 +28,7 @@ fn test_pictures(s: &[u8], r: Room) -> Test
 }
 
 // Whether a lent buffer is shorter than the call needs.
+#[tactic(auto, unfolding(crate::specs::Test::short))]
 fn is_short(lent: Lent, r: Room) -> bool
     requires { (r.width ≤ 1024) × (r.height ≤ 200) × (r.planes ≤ 4) }
     ensures { result ≡ short lent r }
@@ -43,21 +45,16 @@ fn is_short(lent: Lent, r: Room) -> bool
 }
 
 // The whole test.
-pub fn test_room(s: &[u8], lent: Lent) -> Tested
+#[tactic(auto, unfolding(crate::specs::Test::room_test, crate::specs::Test::after_head))]
+pub fn test_room(s: &[u8], lent: Lent) -> Result<Room, Refusal>
     ensures { result ≡ room_test lent s.now }
 {
-    match read_head(s) {
-        Tested::Right(r) => {
-            if is_short(lent, r) {
-                return Tested::Refused(4);
-            }
-            match test_pictures(s, r) {
-                Test::Passed => Tested::Right(r),
-                Test::Refused(number) => Tested::Refused(number),
-            }
-        }
-        Tested::Refused(number) => Tested::Refused(number),
+    let room = read_head(s)?;
+    if is_short(lent, room) {
+        return Err(Reason::BufferShort.into());
     }
+    test_pictures(s, room)?;
+    Ok(room)
 }
 
 // Nothing is lent but the room.
@@ -80,11 +77,7 @@ pub fn fixed_lent(size: usize, n: usize) -> Lent
 {
     Lent {
         fixed_short: n < size,
-        has_surfaces: false,
-        pixels: 0,
-        masks: 0,
-        has_flags: false,
-        flags: 0,
+        ..nothing_lent()
     }
 }
 
@@ -97,8 +90,7 @@ pub fn surfaces_lent(size: usize, n: usize, pixels: usize, masks: usize) -> Lent
         has_surfaces: true,
         pixels,
         masks,
-        has_flags: false,
-        flags: 0,
+        ..nothing_lent()
     }
 }
 
@@ -108,10 +100,8 @@ pub fn flags_lent(size: usize, n: usize, flags: usize) -> Lent
 {
     Lent {
         fixed_short: n < size,
-        has_surfaces: false,
-        pixels: 0,
-        masks: 0,
         has_flags: true,
         flags,
+        ..nothing_lent()
     }
 }

@@ -21,28 +21,28 @@ overflow_mul-n c =
 
 pub put_row-requires : goal.put_row-requires
 put_row-requires c =
-    let found = sym c.in-At.is ∙ c.find_tag.ensures in
+    let found = sym c.in-Some.is ∙ c.find_tag.ensures in
     let inv = c.loop-b.invariant in
     let pre = c.requires in
     let i = nth_at _ _ _ _ 0 _ _ found in
     let one = walked_one _ _ _ _ _ inv.0 found in
     (omega arith, omega arith, omega (arith, one, pre.1, pre.2, inv.1), omega (arith, one, pre.0.few))
 
-pub overflow_add-n-in-At : goal.overflow_add-n-in-At
-overflow_add-n-in-At c =
+pub overflow_add-n-in-Some : goal.overflow_add-n-in-Some
+overflow_add-n-in-Some c =
     let loop = c.loop-b in
     let pre = c.requires in
     omega (arith, loop.invariant.0.few, pre.0.few)
 
 pub loop-b-smaller : goal.loop-b-smaller
 loop-b-smaller c =
-    let i = nth_at _ _ _ _ 0 _ _ (sym c.in-At.is ∙ c.find_tag.ensures) in
+    let i = nth_at _ _ _ _ 0 _ _ (sym c.in-Some.is ∙ c.find_tag.ensures) in
     omega arith
 
 pub loop-b-preserved : goal.loop-b-preserved
 loop-b-preserved c =
     let put-row = c.put_row in let state-bits = c.state_bits-states in
-    let found = sym c.in-At.is ∙ c.find_tag.ensures in
+    let found = sym c.in-Some.is ∙ c.find_tag.ensures in
     let inv = c.loop-b.invariant in
     let here = walked_here _ _ _ _ _ inv.0 found in (
       walked_more _ _ _ _ _ inv.0 found,
@@ -51,12 +51,12 @@ loop-b-preserved c =
           put-row.ensures,
     )
 
-pub shape_of-rows-in-Missing : goal.shape_of-rows-in-Missing
-shape_of-rows-in-Missing c = c.loop-b.invariant.1
+pub shape_of-rows : goal.shape_of-rows
+shape_of-rows c = c.loop-b.invariant.1
 
-pub returns-in-Missing : goal.returns-in-Missing
-returns-in-Missing c =
+pub returns : goal.returns
+returns c =
     let loop = c.loop-b in
-    let none = sym c.in-Missing.is ∙ c.find_tag.ensures in
+    let none = sym c.in_default.is ∙ c.find_tag.ensures in
     let all : loop.n ≡ c.args.objects = walked_all _ _ _ loop.invariant.0 none ∙ sym c.requires.1 in
     (rw all at loop.invariant.2) ∙ rows-over _ _ _ c.requires.2

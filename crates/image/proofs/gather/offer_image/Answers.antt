@@ -7,13 +7,13 @@ use Rattle.image.proofs.gather.offer_image.Goals as goal
 
 pub image_row-row-requires : goal.image_row-row-requires
 image_row-row-requires c =
-    let i = need_at _ _ _ _ _ _ _ (sym c.in-At.is ∙ c.need_tag.ensures) in
+    let i = need_at _ _ _ _ _ _ _ (sym c.in-Some.is ∙ c.need_tag.ensures) in
     omega arith
 
-pub returns-in-At : goal.returns-in-At
-returns-in-At c =
+pub returns-in-Some : goal.returns-in-Some
+returns-in-Some c =
     let offer-row = c.offer_row in let image-row = c.image_row-row in let need-tag = c.need_tag in
-    offered_row _ _ _ _ _ _ _ _ (sym c.in-At.is ∙ need-tag.ensures) (rw image-row.ensures at offer-row.ensures)
+    offered_row _ _ _ _ _ _ _ _ (sym c.in-Some.is ∙ need-tag.ensures) (rw image-row.ensures at offer-row.ensures)
 
-pub returns-in-Missing : goal.returns-in-Missing
-returns-in-Missing c = offered_none _ _ _ _ _ _ (sym c.in-Missing.is ∙ c.need_tag.ensures) refl
+pub returns-in_default : goal.returns-in_default
+returns-in_default c = offered_none _ _ _ _ _ _ (sym c.in_default.is ∙ c.need_tag.ensures) refl

@@ -5,15 +5,15 @@ use Rattle.image.proofs.row.object_row.Goals as goal
 
 pub header_row-requires : goal.header_row-requires
 header_row-requires c =
-    let i = need_at _ _ _ _ _ _ _ (sym c.in-At.is ∙ c.need_tag.ensures) in
+    let i = need_at _ _ _ _ _ _ _ (sym c.in-Some.is ∙ c.need_tag.ensures) in
     omega arith
 
-pub returns-in-At : goal.returns-in-At
-returns-in-At c =
-    let at = sym c.in-At.is ∙ c.need_tag.ensures in
+pub returns-in-Some : goal.returns-in-Some
+returns-in-Some c =
+    let at = sym c.in-Some.is ∙ c.need_tag.ensures in
     rw (← at) (c.header_row.ensures ∙ header-start _ _ _ _ _)
 
-pub returns-in-Missing : goal.returns-in-Missing
-returns-in-Missing c =
-    let none = sym c.in-Missing.is ∙ c.need_tag.ensures in
+pub returns-in-None : goal.returns-in-None
+returns-in-None c =
+    let none = sym c.in-None.is ∙ c.need_tag.ensures in
     rw (← none) (header-none _ _)

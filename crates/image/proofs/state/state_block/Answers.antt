@@ -1,15 +1,9 @@
-use Rattle.std.proofs.Common.{◌+◌, ◌*◌, arith, ◌∙◌}
+use Rattle.std.proofs.Common.{arith, ◌∙◌}
 use Rattle.image.proofs.GatherLaws.{gathered-start, gathered-end}
 use Rattle.image.proofs.ImageLaws.{image-end, state_none, state_some}
 use Rattle.image.proofs.state.state_block.Goals as goal
 
 -- `image::state::state_block` meets its contract. Assumes nothing.
-
-pub overflow_cast-start : goal.overflow_cast-start
-overflow_cast-start c = omega (arith, c.shared_slice_known-2-1.given (8 * c.args.o + 6))
-
-pub overflow_cast-end : goal.overflow_cast-end
-overflow_cast-end c = omega (arith, c.shared_slice_known-4-1.given (8 * c.args.o + 7))
 
 pub returns-then-start-eq0 : goal.returns-then-start-eq0
 returns-then-start-eq0 c =
