@@ -1,41 +1,30 @@
--- Laws of the climb's definitions: a state looked up in a shown list, what a parent's state lets, and one link of the climb.
-use Rattle.std.proofs.Common.{ℕ, zero, suc, ◌+◌, ◌-◌, ◌/◌, ◌%◌, ◌≤◌, ◌<◌, ◌≡◌, refl, sym, ◌∙◌, Bool, true, false, cond, not, ◌&&◌, List, add-one, arith, eq-eqb, ne_eqb, le-leb, eqb, leb, get_or, take, drop, length, drop-cons, length-take-le, get_or-take}
+-- Laws of the climb's definitions: a state looked up in a shown list, and one link of the climb.
+use Rattle.std.proofs.Common.{ℕ, zero, suc, ◌-◌, ◌≤◌, ◌<◌, ◌≡◌, refl, sym, ◌∙◌, Bool, true, false, cond, ◌&&◌, List, [], ◌∷◌, Option, Some, None, arith, eq-eqb, ne_eqb, le-leb, eqb, leb}
 use borrow.Author.Tests.{lt-leb}
-use lib.Seq.{drop-length}
+use Rattle.std.specs.Borrow.{Bor}
+use Rattle.std.specs.List.{find}
+use Rattle.std.specs.Option.{MatchOption, option_map, option_map_or}
 use Rattle.scene.specs.declared.Entry.{Entry}
 use Rattle.climb.specs.Objects.{Objects}
 use Rattle.climb.specs.Climb.{state_of, lets, is_open}
 
 -- ---- a state looked up
 
-module _ (l : List Entry) (n o : ℕ) (long : n ≤ length l) where
-  state_next : (i : ℕ) (d : Entry) → i < n
-      → state_of (drop i (take n l)) o ≡ cond (eqb (get_or l i d).object o) (get_or l i d).state (state_of (drop (suc i) (take n l)) o)
-  unfolding state_of
-  state_next i d h = rw (drop-cons (take n l) i d (rw (length-take-le n l long) h), get_or-take n l i d h)
+state_found : (es : List Entry) (o : ℕ) → state_of es o ≡ option_map_or (λ e. e.state) (find (λ e. eqb e.object o) es) 0
+unfolding state_of
+state_found [] o = refl
+state_found (e ∷ es) o = go (eqb e.object o) (state_found es o)
+  where
+    go : (t : Bool) → state_of es o ≡ option_map_or (λ (e : Entry). e.state) (find (λ e. eqb e.object o) es) 0
+        → cond t e.state (state_of es o) ≡ option_map_or (λ (e : Entry). e.state) (cond t (Some e) (find (λ e. eqb e.object o) es)) 0
+    go true h = refl
+    go false h = h
 
-  module _ (i : ℕ) (d : Entry) (h : i < n) (inv : state_of (take n l) o ≡ state_of (drop i (take n l)) o) where
-    pub state_hit : (get_or l i d).object ≡ o → (get_or l i d).state ≡ state_of (take n l) o
-    state_hit e = sym (inv ∙ state_next i d h ∙ rw (eq-eqb (get_or l i d).object o e))
-
-    pub state_miss : ((get_or l i d).object ≡ o → ⊥) → state_of (take n l) o ≡ state_of (drop (i + 1) (take n l)) o
-    state_miss f = inv ∙ state_next i d h ∙ rw (ne_eqb (get_or l i d).object o f, add-one i)
-
-  pub state_none : (i : ℕ) → i ≡ n → state_of (take n l) o ≡ state_of (drop i (take n l)) o → 0 ≡ state_of (take n l) o
-  unfolding state_of
-  state_none i e inv =
-      let k : i ≡ length (take n l) = rw (length-take-le n l long) e in
-      sym (inv ∙ rw (k, drop-length (take n l)))
-
--- ---- what a parent's state lets
-
-pub lets-set : (flags state : ℕ) → flags / 0x80 % 2 ≡ 1 → not (eqb state 0) ≡ lets flags state
-unfolding lets
-lets-set flags state e = rw (eq-eqb (flags / 0x80 % 2) 1 e)
-
-pub lets-clear : (flags state : ℕ) → (flags / 0x80 % 2 ≡ 1 → ⊥) → eqb state 0 ≡ lets flags state
-unfolding lets
-lets-clear flags state f = rw (ne_eqb (flags / 0x80 % 2) 1 f)
+-- the state of the first entry of o, or 0 where there is none
+pub state_is : (es : List Entry) (o n : ℕ) (r : Option (Bor Entry)) → option_map (λ e. e.now) r ≡ find (λ e. eqb e.object o) es
+    → MatchOption r (n ≡ 0) (λ e. n ≡ e.now.state) → n ≡ state_of es o
+state_is es o n None f h = h ∙ sym (state_found es o ∙ rw (← f))
+state_is es o n (Some e) f h = h ∙ sym (state_found es o ∙ rw (← f))
 
 -- ---- one link of the climb
 

@@ -7,21 +7,18 @@ ghost use Rattle.climb.specs.Tables.{States};
 
 use stored::Shown;
 
+// Objects 0 to 128.
+const OBJECTS: usize = 129;
+
 // The state of object o in a shown list, else 0.
-fn state_of(s: Shown, o: u32) -> u32
-    requires { s.n ≤ most_shown }
-    ensures { result ≡ state_of (entries s) o }
+fn state_of(s: &Shown, o: u32) -> u32
+    requires { s.now.n ≤ most_shown }
+    ensures { result ≡ state_of (entries s.now) o }
 {
-    let n = s.n;
-    let mut i: usize = 0;
-    while i < n {
-        let e = s.list[i];
-        if e.object == o {
-            return e.state;
-        }
-        i += 1;
-    }
-    0
+    s.list[..s.n]
+        .iter()
+        .find(|e| e.object == o)
+        .map_or(0, |e| e.state)
 }
 
 // Puts the states of objects 0 to 128.
@@ -29,10 +26,7 @@ pub fn fill_states(s: Shown, states: &mut [u32])
     requires { (s.n ≤ most_shown) × (129 ≤ length states.old) }
     ensures { States (entries s) states.new }
 {
-    let mut o: usize = 0;
-    while o < 129 {
-        let state = state_of(s, o as u32);
-        states[o] = state;
-        o += 1;
+    for o in 0..OBJECTS {
+        states[o] = state_of(&s, o as u32);
     }
 }

@@ -77,12 +77,6 @@ pub allowed_is : (room : Room) (e : Entry) (b t : Bool) → b ≡ allowed room e
 allowed_is room e b t p q = sym p ∙ q
 
 module _ (room : Room) (r : Shown) (e : Entry) (es : List Entry) where
-  pub draw_off : allowed room e ≡ false → (k : ℕ) → r.refusal ≡ 12 → plan_of r ≡ drawn_on room k e es
-  draw_off h k f = rw h (plan-no r 12 f (λ q. omega arith))
-
-  pub draw_fault : allowed room e ≡ true → (k : ℕ) → (k ≡ 0 → ⊥) → r.refusal ≡ k → plan_of r ≡ drawn_on room k e es
-  draw_fault h k g f = rw (h, ne_eqb k 0 g) (plan-no r k f g)
-
   module _ (x : Entry) (is : x ≡ e) where
     pub draw_done : allowed room e ≡ true → (k : ℕ) → k ≡ 0 → r.refusal ≡ 0 → (fs : List Entry) → entries r ≡ fs ++ x ∷ []
         → fs ≡ without (goes room true x) es → plan_of r ≡ drawn_on room k e es

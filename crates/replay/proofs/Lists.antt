@@ -1,5 +1,6 @@
 -- Laws of shown lists: tests and what stays over one more entry. Assumes nothing.
-use Rattle.std.proofs.Common.{ℕ, zero, suc, ◌+◌, ◌<◌, ◌≤◌, ◌≡◌, refl, sym, ap, ◌∙◌, Bool, true, false, cond, ◌||◌, List, [], ◌∷◌, ◌++◌, get_or, set, take, length, take-suc, take-suc-set, add-one, arith}
+use Rattle.std.proofs.Common.{ℕ, ◌+◌, ◌<◌, ◌≡◌, refl, sym, ap, ◌∙◌, Bool, true, false, cond, ◌||◌, List, [], ◌∷◌, ◌++◌, get_or, take, length, take-suc, add-one}
+use Rattle.std.specs.List.{list_any}
 use Rattle.scene.specs.declared.Entry.{Entry}
 use Rattle.scene.specs.Steps.{some, without}
 use Rattle.scene.proofs.Lists.{some-append, without-append}
@@ -11,6 +12,11 @@ or_false false = refl
 pub append-nil : (es : List Entry) → es ++ [] ≡ es
 append-nil [] = refl
 append-nil (e ∷ es) = ap (◌∷◌ e) (append-nil es)
+
+pub any_is_some : (f : Entry → Bool) (es : List Entry) → list_any f es ≡ some f es
+unfolding some
+any_is_some f [] = refl
+any_is_some f (e ∷ es) = ap (◌||◌ (f e)) (any_is_some f es)
 
 -- ---- one more entry
 
@@ -31,24 +37,6 @@ without_more b f s i d r l h e g k =
     e
     ∙ without-one b f (get_or s i d) l g
     ∙ rw (add-one i, take-suc s i d h, without-append f (take i s) (get_or s i d ∷ []), k)
-
-pub pushed : (l : List Entry) (n : ℕ) (e : Entry) → n < length l → take (n + 1) (set l n e) ≡ take n l ++ e ∷ []
-pushed l n e h = rw (add-one n) (take-suc-set l n e h)
-
--- an entry stored past the first n leaves those
-past : (l : List Entry) (n : ℕ) (e : Entry) → take n (set l n e) ≡ take n l
-past [] zero e = refl
-past [] (suc n) e = refl
-past (x ∷ l) zero e = refl
-past (x ∷ l) (suc n) e = ap (◌∷◌ x) (past l n e)
-
-pub stored : (l : List Entry) (n : ℕ) (e : Entry) (b : Bool) → n < length l → take (cond b n (n + 1)) (set l n e) ≡ cond b (take n l) (take n l ++ e ∷ [])
-stored l n e true h = past l n e
-stored l n e false h = pushed l n e h
-
-pub advance_le : (b : Bool) (k i r : ℕ) → r ≡ cond b k (k + 1) → k ≤ i → r ≤ i + 1
-advance_le true k i r e h = omega arith
-advance_le false k i r e h = omega arith
 
 -- tests that agree on every entry sift alike
 pub without-same : (f g : Entry → Bool) (es : List Entry) → ((e : Entry) → f e ≡ g e) → without f es ≡ without g es

@@ -1,5 +1,6 @@
 -- Laws of the table of last places: its rows, one place stored, the homes, and that an accepted draw's place can be stored. Assumes nothing.
 use Rattle.std.proofs.Common.{ℕ, ◌+◌, ◌*◌, ◌<◌, ◌≤◌, ◌≡◌, refl, sym, ap, ◌∙◌, Bool, true, false, cond, List, eqb, leb, get_or, set, length, length-set, get_or-set_same, get_or-set_other, arith, le-leb, leb-true, leb-false, eqb-true}
+use Rattle.std.specs.Int.{from_bool}
 use borrow.Author.Tests.{lt-leb, eqb-false, not-true}
 use Rattle.scene.specs.declared.Entry.{Entry}
 use Rattle.scene.specs.declared.Place.{Place}
@@ -33,13 +34,6 @@ places_row l o h = rw (le-leb o 128 h)
 places_past : (l : List ℕ) (o : ℕ) → 128 < o → places_in l o ≡ nowhere
 unfolding places_in
 places_past l o h = rw (lt-leb o 128 h)
-
-pub at_row : (l : List ℕ) (o : ℕ) (at : code.Spot) → o ≤ 128 → at.x ≡ get_or l (3 * o) 0 → at.y ≡ get_or l (3 * o + 1) 0
-    → at.set ≡ eqb (get_or l (3 * o + 2) 0) 1 → at.x < 4294967296 → at.y < 4294967296 → IsAt at (places_in l o)
-at_row l o at h ex ey es fx fy = rw (places_row l o h) (record { x = ex; y = ey; set = es; left = omega arith; upper = omega arith })
-
-pub at_past : (l : List ℕ) (o : ℕ) (at : code.Spot) → 128 < o → at.x ≡ 0 → at.y ≡ 0 → at.set ≡ false → IsAt at (places_in l o)
-at_past l o at h ex ey es = rw (places_past l o h) (record { x = ex; y = ey; set = es; left = omega arith; upper = omega arith })
 
 -- ---- one place stored
 
@@ -90,11 +84,11 @@ module _ (l : List ℕ) (o a b f : ℕ) (few : o ≤ 128) (long : places_length 
       go true e = ap (places_in l₃) (eqb-true q o e) ∙ places_row l₃ o few ∙ own
       go false e = stays (eqb-false q o e) (leb q 128) refl
 
-flag_back : (b : Bool) → eqb (cond b 1 0) 1 ≡ b
+flag_back : (b : Bool) → eqb (from_bool b) 1 ≡ b
 flag_back true = refl
 flag_back false = refl
 
-pub stored_place : (l : List ℕ) (o f : ℕ) (at : code.Spot) (p : Spot) → o ≤ 128 → places_length ≤ length l → f ≡ cond at.set 1 0 → IsAt at p
+pub stored_place : (l : List ℕ) (o f : ℕ) (at : code.Spot) (p : Spot) → o ≤ 128 → places_length ≤ length l → f ≡ from_bool at.set → IsAt at p
     → places_in (set (set (set l (3 * o) at.x) (3 * o + 1) at.y) (3 * o + 2) f) ≡ (λ q. cond (eqb q o) p (places_in l q))
 stored_place l o f at p few long e a =
     let s = ap (λ (k : ℕ). eqb k 1) e ∙ flag_back at.set ∙ a.set in

@@ -9,6 +9,8 @@ use Rattle.scene.specs.Steps.{Scene, same_box, clash, some, without, allowed, ap
 use Rattle.stored.specs.declared.Shown.{Shown}
 use Rattle.stored.specs.Bytes.{entries, session_of}
 use Rattle.replay.specs.declared.Spot.{Spot}
+use Rattle.replay.specs.declared.tables.Tables.{Tables}
+use Rattle.replay.specs.Tables.{room_of_tables}
 use Rattle.replay.specs.Places.{places_in}
 
 pub data Plan : Type 0 where
@@ -20,6 +22,10 @@ unfoldable pub judged : Room → ℕ → Scene → Step → Plan
 judged room n sc st = let k = refusal room n sc st in cond (eqb k 0) (ok (applied room sc st).shown) (no k)
 
 -- ---- the code's own values
+
+-- the room that a caller's tables tell
+abbrev pub room_of : Tables → Room
+room_of t = room_of_tables t.objects.rows.now t.verdicts.now t.objects.size
 
 abbrev pub plan_of : Shown → Plan
 plan_of s = cond (eqb s.refusal 0) (ok (entries s)) (no s.refusal)

@@ -15,7 +15,7 @@ pub const VERDICTS_LENGTH: usize = 1290;
 pub const PLACES_LENGTH: usize = 387;
 
 // The room: its width in strips, its height in pixels, its count of objects.
-#[derive(Clone, Copy)]
+#[derive(Clone, Copy, Debug, PartialEq, Eq)]
 pub struct Size {
     pub strips: usize,
     pub height: usize,
@@ -23,9 +23,16 @@ pub struct Size {
 }
 
 // A place in pixels, and whether a strip position set it.
-#[derive(Clone, Copy)]
+#[derive(Clone, Copy, Debug, PartialEq, Eq)]
 pub struct Spot {
     pub x: usize,
     pub y: usize,
     pub set: bool,
 }
+
+// The place of an object that is not there.
+pub const NOWHERE: Spot = Spot {
+    x: 0,
+    y: 0,
+    set: false,
+};

@@ -1,13 +1,13 @@
 // A shown list by value: an entry goes last, those that a step keeps, an object is looked for.
 ghost use Rattle.std.specs.Prelude.{◌≡◌, ℕ, ◌+◌, ◌≤◌, ◌<◌, cond, List, [], ◌∷◌, ◌++◌, length, eqb};
 ghost use Rattle.scene.specs.Steps.{some, without};
-ghost use Rattle.replay.specs.Tables.{room_of_tables, Sizes, objects_length};
 ghost use Rattle.stored.specs.Bytes.{entries};
 ghost use Rattle.stored.specs.Layout.{most_shown};
+ghost use Rattle.replay.specs.Tables.{room_of_tables};
 ghost use Rattle.replay.specs.Replay.{entry_at};
 
-use crate::tables::same_box;
-use crate::{Size, Spot};
+use crate::Spot;
+use crate::tables::Objects;
 use scene::Entry;
 use stored::{MOST_SHOWN, Shown};
 
@@ -31,9 +31,7 @@ pub fn empty() -> Shown
 pub fn refused(s: Shown, refusal: u8) -> Shown
     ensures { (result.refusal ≡ refusal) × (result.n ≡ s.n) }
 {
-    let mut t = s;
-    t.refusal = refusal;
-    t
+    Shown { refusal, ..s }
 }
 
 // An entry goes last.
@@ -42,9 +40,8 @@ pub fn push(s: Shown, e: Entry) -> Shown
     ensures { (entries result ≡ entries s ++ e ∷ []) × (result.n ≡ s.n + 1) × (result.refusal ≡ s.refusal) }
 {
     let mut t = s;
-    let n = t.n;
-    t.list[n] = e;
-    t.n = n + 1;
+    t.list[t.n] = e;
+    t.n += 1;
     t
 }
 
@@ -62,48 +59,26 @@ pub fn entry_at(object: u32, state: u32, at: Spot) -> Entry
 }
 
 // A draw of e (boxes true), or a hide of e's object, removes f.
-pub fn goes(objects: &[u32], size: Size, boxes: bool, e: Entry, f: Entry) -> bool
-    requires { (objects_length ≤ length objects.now) × Sizes size }
-    ensures { (v : List ℕ) → result ≡ Rattle.replay.specs.Replay.goes (room_of_tables objects.now v size) boxes e f }
+pub fn goes(objects: Objects<'_>, boxes: bool, e: Entry, f: Entry) -> bool
+    ensures { (v : List ℕ) → result ≡ Rattle.replay.specs.Replay.goes
+        (room_of_tables objects.entry.rows.now v objects.entry.size) boxes e f }
 {
-    if f.object == e.object {
-        return true;
-    }
-    if boxes {
-        return same_box(objects, size, f, e);
-    }
-    false
-}
-
-// The place after k, for an entry that stays; else k.
-fn advanced(k: usize, gone: bool) -> usize
-    requires { k < most_shown }
-    ensures { result ≡ cond gone k (k + 1) }
-{
-    if gone {
-        return k;
-    }
-    k + 1
+    f.object == e.object || boxes && objects.same_box(f, e)
 }
 
 // The entries that a draw of e (boxes true), or a hide of e's object, keeps.
-pub fn kept(objects: &[u32], size: Size, boxes: bool, s: Shown, e: Entry) -> Shown
-    requires { (objects_length ≤ length objects.now) × Sizes size × (s.n ≤ most_shown) }
+pub fn kept(objects: Objects<'_>, boxes: bool, s: Shown, e: Entry) -> Shown
+    requires { s.n ≤ most_shown }
     ensures { ((v : List ℕ) → entries result ≡ without
-        (Rattle.replay.specs.Replay.goes (room_of_tables objects.now v size) boxes e) (entries s)) × (result.n ≤ s.n) × (result.refusal ≡ 0) }
+        (Rattle.replay.specs.Replay.goes (room_of_tables objects.entry.rows.now v objects.entry.size) boxes e) (entries s))
+        × (result.n ≤ s.n) × (result.refusal ≡ 0) }
 {
-    let n = s.n;
     let mut t = empty();
-    let mut k = 0;
-    let mut i = 0;
-    while i < n {
-        let f = s.list[i];
-        let gone = goes(objects, size, boxes, e, f);
-        t.list[k] = f;
-        k = advanced(k, gone);
-        i += 1;
+    for f in &s.list[..s.n] {
+        if !goes(objects, boxes, e, *f) {
+            t = push(t, *f);
+        }
     }
-    t.n = k;
     t
 }
 
@@ -111,13 +86,5 @@ pub fn is_shown(s: Shown, object: u32) -> bool
     requires { s.n ≤ most_shown }
     ensures { result ≡ some (λ e. eqb e.object object) (entries s) }
 {
-    let n = s.n;
-    let mut found = false;
-    let mut i = 0;
-    while i < n {
-        let e = s.list[i];
-        found = found | (e.object == object);
-        i += 1;
-    }
-    found
+    s.list[..s.n].iter().any(|e| e.object == object)
 }

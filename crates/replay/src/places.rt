@@ -2,35 +2,37 @@
 ghost use Rattle.std.specs.Prelude.{◌≡◌, ℕ, ◌≤◌, ◌<◌, cond, List, eqb, length};
 ghost use Rattle.scene.specs.declared.Entry.{Entry};
 ghost use Rattle.scene.specs.Steps as steps;
-ghost use Rattle.replay.specs.Tables.{room_of_tables, Sizes, objects_length, places_length};
+ghost use Rattle.replay.specs.Tables.{room_of_tables, places_length};
 ghost use Rattle.replay.specs.Places.{places_in, scene_in, IsAt, NearPlace, Near};
 
-use crate::tables::cell;
-use crate::{Size, Spot};
-use number::wide_u32;
+use crate::tables::{HOME_X, HOME_Y, Objects};
+use crate::{NOWHERE, Spot};
 use scene::{Place, Step};
 
+// Objects 0 to 128 have a row each.
+const OBJECTS: u32 = 129;
+
+const ROW_LENGTH: usize = 3;
+
 // Where an object last was.
+#[tactic(auto, unfolding(crate::specs::Places::places_in))]
 pub fn place_of(places: &[u32], object: u32) -> Spot
     requires { places_length ≤ length places.now }
     ensures { IsAt result (places_in places.now object) × (result.x < 4294967296) × (result.y < 4294967296) }
 {
-    let o = wide_u32(object);
-    if 128 < o {
-        return Spot {
-            x: 0,
-            y: 0,
-            set: false,
-        };
+    if OBJECTS <= object {
+        return NOWHERE;
     }
-    let at = 3 * o;
-    let x = wide_u32(places[at]);
-    let y = wide_u32(places[at + 1]);
-    let set = places[at + 2] == 1;
-    Spot { x, y, set }
+    let at = ROW_LENGTH * object as usize;
+    Spot {
+        x: places[at] as usize,
+        y: places[at + 1] as usize,
+        set: places[at + 2] == 1,
+    }
 }
 
 // Where a draw of the object at the place puts it.
+#[tactic(auto, unfolding(scene::specs::Steps::spot_of))]
 pub fn spot_of(places: &[u32], object: u32, place: Place) -> Spot
     requires { places_length ≤ length places.now }
     ensures spot { (es : List Entry) → IsAt result (steps.spot_of (scene_in places.now es) object place) }
@@ -39,20 +41,11 @@ pub fn spot_of(places: &[u32], object: u32, place: Place) -> Spot
     match place {
         Place::Last => place_of(places, object),
         Place::Strip(a, b) => Spot {
-            x: 8 * wide_u32(a),
-            y: 8 * wide_u32(b),
+            x: 8 * a as usize,
+            y: 8 * b as usize,
             set: true,
         },
     }
-}
-
-fn flag(b: bool) -> u32
-    ensures { result ≡ cond b 1 0 }
-{
-    if b {
-        return 1;
-    }
-    0
 }
 
 fn store_place(places: &mut [u32], object: u32, at: Spot)
@@ -60,10 +53,10 @@ fn store_place(places: &mut [u32], object: u32, at: Spot)
     ensures { (p : steps.Spot) → IsAt at p
         → places_in places.new ≡ (λ q. cond (eqb q object) p (places_in places.old q)) }
 {
-    let i = 3 * wide_u32(object);
+    let i = ROW_LENGTH * object as usize;
     places[i] = at.x as u32;
     places[i + 1] = at.y as u32;
-    places[i + 2] = flag(at.set);
+    places[i + 2] = u32::from(at.set);
 }
 
 // The table after an accepted step: a draw's object is where the draw put it.
@@ -81,16 +74,15 @@ pub fn store_step(places: &mut [u32], step: Step)
 }
 
 // Each object at the place of its IMHD; one that is not there at 0, 0.
-pub fn fill_homes(places: &mut [u32], objects: &[u32], size: Size)
-    requires { (places_length ≤ length places.old) × (objects_length ≤ length objects.now) × Sizes size }
-    ensures { (v : List ℕ) → places_in places.new ≡ (steps.bare (room_of_tables objects.now v size)).last }
+pub fn fill_homes(places: &mut [u32], objects: Objects<'_>)
+    requires { places_length ≤ length places.old }
+    ensures { (v : List ℕ) → places_in places.new
+        ≡ (steps.bare (room_of_tables objects.entry.rows.now v objects.entry.size)).last }
 {
-    let mut o: u32 = 0;
-    while o < 129 {
-        let x = cell(objects, size, o, 1);
-        let y = cell(objects, size, o, 2);
+    for o in 0..OBJECTS {
+        let x = objects.cell(o, HOME_X);
+        let y = objects.cell(o, HOME_Y);
         let at = Spot { x, y, set: false };
         store_place(places, o, at);
-        o += 1;
     }
 }

@@ -1,5 +1,6 @@
 -- Laws of the strips that a step touches. Assumes nothing.
 use Rattle.std.proofs.Common.{ℕ, ◌+◌, ◌-◌, ◌<◌, ◌≡◌, refl, sym, ap, ap₂, subst, ◌∙◌, Bool, true, false, cond, ◌&&◌, ◌||◌, List, [], ◌∷◌, ◌⊎◌, ⊎_elim, eqb, ltb, get_or, set, take, length, length-set, get_or-set_same, get_or-set_other, ext_get_or, arith, eq-or-lt_of_le, lt-ltb, le-ltb, ltb-true, ltb-false, eqb-true}
+use Rattle.std.specs.Int.{from_bool}
 use borrow.Author.Tests.{eqb-false}
 use Rattle.scene.specs.declared.Call.TheVariants.{Make, TakeBack}
 use Rattle.scene.specs.declared.Entry.{Entry}
@@ -32,6 +33,10 @@ unfolding entry_of
 entry_is sc o s p at a = λ i. record { object = o; state = s; x = a.x i; y = a.y i }
 
 -- ---- flags
+
+pub flag_is : (b : Bool) → from_bool b ≡ flag b
+flag_is true = refl
+flag_is false = refl
 
 below : (k n : ℕ) → (k ≡ n → ⊥) → ltb k n ≡ ltb k (n + 1)
 below k n z = go (ltb k n) refl
@@ -116,15 +121,11 @@ pub leaves_none : (room : Room) (boxes : Bool) (e : Entry) (g : ℕ → Bool) (n
 unfolding some
 leaves_none room boxes e g n l = ap (λ (f : ℕ → Bool). flagged f n l) (λ j k. sym (or_false (g k)) j)
 
--- an entry that goes, beside the others; one that stays marks nothing
+-- an entry that goes, beside the others
 pub gone_yes : (g h : ℕ → Bool) (l m r : List ℕ) (n : ℕ) (b : Bool) → m ≡ flagged g n l → b ≡ true → r ≡ flagged (marks m true h) n m
     → r ≡ flagged (λ k. g k || (b && h k)) n l
 gone_yes g h l m r n b e t q =
     q ∙ ap (λ (x : List ℕ). flagged (marks x true h) n x) e ∙ flag-kept g l h n ∙ ap (λ (c : Bool). flagged (λ k. g k || (c && h k)) n l) (sym t)
-
-pub gone_no : (g h : ℕ → Bool) (l m : List ℕ) (n : ℕ) (b : Bool) → m ≡ flagged g n l → b ≡ false → m ≡ flagged (λ k. g k || (b && h k)) n l
-gone_no g h l m n b e t =
-    e ∙ ap (λ (f : ℕ → Bool). flagged f n l) (λ j k. sym (or_false (g k)) j) ∙ ap (λ (c : Bool). flagged (λ k. g k || (c && h k)) n l) (sym t)
 
 some-only : (c f : Entry → Bool) (es : List Entry) → some c (only f es) ≡ some (λ e. f e && c e) es
 unfolding some only

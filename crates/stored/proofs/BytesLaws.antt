@@ -1,6 +1,6 @@
 -- Laws of a session's bytes: what was put is read back, and the rest stays. Assumes nothing.
-use Rattle.std.proofs.Common.{ℕ, zero, suc, ◌+◌, ◌*◌, ◌-◌, ◌<◌, ◌≤◌, ◌≡◌, refl, sym, ap, ap₂, subst, ◌∙◌, Bool, true, false, ◌&&◌, List, [], ◌∷◌, ◌++◌, get_or, set, take, drop, length, length-set, replicate, get_or-set_same, get_or-set_other, drop-cons, get_or-take, length-take-le, arith, add-one}
-use mathlib.Core.Bool.{and-true, and-false, and_assoc}
+use Rattle.std.proofs.Common.{ℕ, zero, suc, ◌+◌, ◌*◌, ◌-◌, ◌<◌, ◌≤◌, ◌≡◌, refl, sym, ap, ap₂, ◌∙◌, Bool, true, false, ◌&&◌, List, [], ◌∷◌, ◌++◌, get_or, set, take, drop, length, length-set, replicate, get_or-set_same, get_or-set_other, drop-cons, get_or-take, length-take-le, arith, add-one}
+use mathlib.Core.Bool.{and-false}
 use lib.Seq.{drop-length}
 use Rattle.number.proofs.BufferLaws.{over_of}
 use Rattle.scene.specs.declared.Call.TheVariants.{Make, TakeBack}
@@ -10,14 +10,8 @@ use Rattle.scene.specs.declared.Step.{Step}
 use Rattle.scene.specs.declared.Step.TheVariants.{Draw, Hide}
 use Rattle.scene.specs.Steps.{most_steps}
 use Rattle.stored.specs.Bytes.{down, step_of, step_at, kind_of, object_of, state_of, place_a, place_b, put5, put_step, Mark, mark, mark_at, marks_from, is_mark, same_marks}
-use Rattle.stored.specs.Bytes.{put_marks, put_shown, emptied, steps_of, put_history, put_call, All, SmallEntry}
+use Rattle.stored.specs.Bytes.{put_marks, put_shown, emptied, steps_of, put_history, put_call}
 use Rattle.stored.specs.Layout.{session_size, steps_from, step_size, shown_from, mark_size}
-use Rattle.stored.proofs.Lists.{all_at}
-
-pub step_of-strip : (k o s a b : ℕ) → (k ≡ 0 → ⊥) → (k ≡ 1 → ⊥) → Draw o s (Strip a b) ≡ step_of k o s a b
-step_of-strip zero o s a b h g = absurd (h refl)
-step_of-strip (suc zero) o s a b h g = absurd (g refl)
-step_of-strip (suc (suc k)) o s a b h g = refl
 
 -- a store at i leaves what stands before it, and what stands after it
 pub before : (l : List ℕ) (i j v : ℕ) → j < i → get_or (set l i v) j 0 ≡ get_or l j 0
@@ -247,28 +241,17 @@ module _ (list : List Entry) (n : ℕ) (fits : n ≤ length list) where
   no_entry : (i : ℕ) → i ≡ n → drop i es ≡ []
   no_entry i e = ap (λ (k : ℕ). drop k es) (e ∙ sym long) ∙ drop-length es
 
-  pub small_at : (i : ℕ) (d : Entry) → i < n → All SmallEntry es → SmallEntry (get_or list i d)
-  small_at i d h a = subst SmallEntry (get_or-take n list i d h) (all_at SmallEntry es i d (omega (arith, long)) a)
-
   -- one more mark is compared; all are
-  pub marks-more : (l : List ℕ) (from i : ℕ) (d : Entry) (same b : Bool) → i < n → b ≡ is_mark (mark_at l from i) (get_or list i d)
-      → (same && same_marks (marks_from l from i (n - i)) (drop i es)) ≡ ((same && b) && same_marks (marks_from l from (i + 1) (n - (i + 1))) (drop (i + 1) es))
+  pub marks_next : (l : List ℕ) (from i : ℕ) (d : Entry) (b : Bool) → i < n → b ≡ is_mark (mark_at l from i) (get_or list i d)
+      → same_marks (marks_from l from i (n - i)) (drop i es) ≡ (b && same_marks (marks_from l from (i + 1) (n - (i + 1))) (drop (i + 1) es))
   unfolding same_marks marks_from
-  marks-more l from i d same b h e =
+  marks_next l from i d b h e =
       let k : n - i ≡ suc (n - (i + 1)) = omega arith in
-      rw (k, next_entry i d h, ← e, ← add-one i) (sym (and_assoc same b (same_marks (marks_from l from (i + 1) (n - (i + 1))) (drop (i + 1) es))))
+      rw (k, next_entry i d h, ← e, ← add-one i)
 
-  pub marks-start : (l : List ℕ) (from : ℕ) → same_marks (marks_from l from 0 n) es ≡ (true && same_marks (marks_from l from 0 (n - 0)) (drop 0 es))
-  marks-start l from = let z : n - 0 ≡ n = omega arith in rw z
-
-  pub marks-all : (l : List ℕ) (from i k : ℕ) (same : Bool) → i ≡ n → n ≡ k
-      → same_marks (marks_from l from 0 n) es ≡ (same && same_marks (marks_from l from i (n - i)) (drop i es)) → same ≡ same_marks (marks_from l from 0 k) es
+  pub marks_end : (l : List ℕ) (from i : ℕ) → i ≡ n → same_marks (marks_from l from i (n - i)) (drop i es) ≡ true
   unfolding same_marks marks_from
-  marks-all l from i k same e f h =
-      let z : n - i ≡ 0 = omega arith in
-      let g : same_marks (marks_from l from 0 n) es ≡ (same && true) =
-      h ∙ rw (z, no_entry i e) in
-      sym (and-true same) ∙ sym g ∙ ap (λ (m : ℕ). same_marks (marks_from l from 0 m) es) f
+  marks_end l from i e = let z : n - i ≡ 0 = omega arith in rw (z, no_entry i e)
 
   pub marks-none : (l : List ℕ) (from k : ℕ) → (k ≡ n → ⊥) → false ≡ same_marks (marks_from l from 0 k) es
   marks-none l from k h = sym (marks_differ l from 0 k es (λ q. h (q ∙ long)))

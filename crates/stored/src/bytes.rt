@@ -11,13 +11,7 @@ use scene::{Call, Entry, Place, Step};
 pub fn count(x: u8) -> usize
     ensures { (result ≡ x) × (result < 256) }
 {
-    x as usize
-}
-
-fn number(x: u8) -> u32
-    ensures { result ≡ x }
-{
-    x as u32
+    usize::from(x)
 }
 
 pub fn step_at(session: &[u8], i: usize) -> Step
@@ -25,14 +19,14 @@ pub fn step_at(session: &[u8], i: usize) -> Step
     ensures { result ≡ step_at session.now i }
 {
     let at = STEPS_FROM + STEP_SIZE * i;
-    let object = number(session[at + 1]);
+    let object = u32::from(session[at + 1]);
     match session[at] {
         0 => Step::Hide(object),
-        1 => Step::Draw(object, number(session[at + 2]), Place::Last),
+        1 => Step::Draw(object, u32::from(session[at + 2]), Place::Last),
         _ => {
-            let a = number(session[at + 3]);
-            let b = number(session[at + 4]);
-            Step::Draw(object, number(session[at + 2]), Place::Strip(a, b))
+            let a = u32::from(session[at + 3]);
+            let b = u32::from(session[at + 4]);
+            Step::Draw(object, u32::from(session[at + 2]), Place::Strip(a, b))
         }
     }
 }
@@ -67,7 +61,7 @@ pub fn store_history(session: &mut [u8], call: Call)
     requires { (session_size ≤ length session.old) × Storable session.old call }
     ensures { session.new ≡ put_history session.old call }
 {
-    let n = count(session[0]);
+    let n = usize::from(session[0]);
     match call {
         Call::Make(step) => {
             put_step(session, n, step);
@@ -84,13 +78,11 @@ pub fn store_shown(session: &mut [u8], s: Shown)
     ensures { session.new ≡ put_shown session.old (entries s) }
 {
     let n = s.n;
-    let mut i = 0;
-    while i < n {
+    for i in 0..n {
         let e = s.list[i];
         let at = SHOWN_FROM + MARK_SIZE * i;
         session[at] = e.object as u8;
         session[at + 1] = e.state as u8;
-        i += 1;
     }
     session[1] = n as u8;
 }
@@ -98,7 +90,7 @@ pub fn store_shown(session: &mut [u8], s: Shown)
 fn is_mark(object: u8, state: u8, e: Entry) -> bool
     ensures { result ≡ is_mark (mark object state) e }
 {
-    (number(object) == e.object) & (number(state) == e.state)
+    u32::from(object) == e.object && u32::from(state) == e.state
 }
 
 // The shown list that the session keeps is s.
@@ -107,16 +99,14 @@ pub fn agrees(session: &[u8], s: Shown) -> bool
     ensures { result ≡ same_marks (marks_from session.now shown_from 0 (get_or session.now 1 0)) (entries s) }
 {
     let n = s.n;
-    if count(session[1]) != n {
+    if usize::from(session[1]) != n {
         return false;
     }
-    let mut same = true;
-    let mut i = 0;
-    while i < n {
-        let e = s.list[i];
-        let at = SHOWN_FROM + MARK_SIZE * i;
-        same = same & is_mark(session[at], session[at + 1], e);
-        i += 1;
+    for k in 0..n {
+        let at = SHOWN_FROM + MARK_SIZE * k;
+        if !is_mark(session[at], session[at + 1], s.list[k]) {
+            return false;
+        }
     }
-    same
+    true
 }

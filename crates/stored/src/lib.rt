@@ -20,7 +20,7 @@ pub const MARK_SIZE: usize = 2;
 pub const MOST_SHOWN: usize = 64;
 
 // A shown list, the oldest entry first; or, where refusal is not 0, a refusal's number.
-#[derive(Clone, Copy)]
+#[derive(Clone, Copy, Debug, PartialEq, Eq)]
 pub struct Shown {
     pub refusal: u8,
     pub n: usize,

@@ -1,25 +1,17 @@
-use Rattle.std.proofs.Common.{refl, arith, rules}
-use Rattle.stored.proofs.Lists.{length_of_map}
-use Rattle.climb.proofs.ClimbLaws.{state_hit, state_miss, state_none}
+use Rattle.std.proofs.Common.{◌≡◌, eqb, rules, tests}
+use Rattle.std.specs.Option.{MatchOption}
+use Rattle.std.proofs.lemmas.Iterator.{YieldsList-from_slice}
+use Rattle.std.proofs.lemmas.Iterator.Search.{find_from_yields_List}
+use Rattle.scene.specs.declared.Entry.{Entry}
+use Rattle.stored.specs.Bytes.{entries}
+use Rattle.climb.proofs.ClimbLaws.{state_is}
 use Rattle.climb.proofs.states.state_of.Goals as goal
 
-pub loop-i-init : goal.loop-i-init
-loop-i-init c = (omega arith, c.requires, refl, search (rules, length_of_map), refl)
-
-pub returns-then-e-o : goal.returns-then-e-o
-returns-then-e-o c =
-    let loop = c.loop-i in let args = c.args in
-    let v = loop.invariant in
-    state_hit args.s.list args.s.n args.o (omega arith) _ _ (omega arith) v.4 c.if-e-o.true
-
-pub loop-i-preserved : goal.loop-i-preserved
-loop-i-preserved c =
-    let loop = c.loop-i in let args = c.args in
-    let v = loop.invariant in
-    (omega arith, v.1, v.2, v.3, state_miss args.s.list args.s.n args.o (omega arith) _ _ (omega arith) v.4 c.if-e-o.false)
+-- `climb::states::state_of` meets its contract. Assumes nothing.
 
 pub returns : goal.returns
 returns c =
-    let loop = c.loop-i in let args = c.args in
-    let v = loop.invariant in
-    state_none args.s.list args.s.n args.o (omega arith) loop.i (omega arith) v.4
+    let f = find_from_yields_List (λ (e : Entry). eqb e.object c.args.o) _ _ c.find.result c.find.ensures.ran
+    (YieldsList-from_slice (entries c.args.s.now) cc) (λ x b q k. search (rules, tests)) in
+    let h : MatchOption c.find.result (c.map_or.result ≡ 0) (λ e. c.map_or.result ≡ e.now.state) = search rules in
+    state_is (entries c.args.s.now) c.args.o c.map_or.result c.find.result f h

@@ -1,23 +1,15 @@
-use Rattle.std.proofs.Common.{◌≡◌, refl, eqb, arith, rules}
+use Rattle.std.proofs.Common.{◌∙◌, eqb, rules, tests}
+use Rattle.std.proofs.lemmas.Iterator.{YieldsList-from_slice}
+use Rattle.std.proofs.lemmas.Iterator.Search.{any_from_yields_List}
 use Rattle.scene.specs.declared.Entry.{Entry}
-use Rattle.scene.specs.Steps.{some}
-use Rattle.stored.proofs.Lists.{length_of_map}
-use Rattle.replay.proofs.Lists.{some_more}
+use Rattle.stored.specs.Bytes.{entries}
+use Rattle.replay.proofs.Lists.{any_is_some}
 use Rattle.replay.proofs.list.is_shown.Goals as goal
 
 -- `replay::list::is_shown` meets its contract. Assumes nothing.
 
-pub loop-i-init : goal.loop-i-init
-unfolding some
-loop-i-init c = (omega arith, c.requires, refl, search (rules, length_of_map), refl)
-
-pub loop-i-preserved : goal.loop-i-preserved
-loop-i-preserved c =
-    let loop = c.loop-i in let args = c.args in
-    let v = loop.invariant in
-    (omega arith, v.1, v.2, v.3, some_more (λ (e : Entry). eqb e.object args.object) args.s.list loop.i _ loop.found (omega arith) v.4)
-
 pub returns : goal.returns
 returns c =
-    let e : c.loop-i.i ≡ c.args.s.n = omega arith in
-    rw (← e) c.loop-i.invariant.4
+    any_from_yields_List (λ (e : Entry). eqb e.object c.args.object) _ _ c.any.result c.any.ensures.ran
+    (YieldsList-from_slice (entries c.args.s) cc) (λ x b q k. search (rules, tests))
+    ∙ any_is_some (λ (e : Entry). eqb e.object c.args.object) (entries c.args.s)

@@ -1,9 +1,9 @@
 use Rattle.std.proofs.Common.{ℕ, ◌-◌, ◌≡◌, sym, ◌∙◌, arith}
+use Rattle.replay.specs.Replay.{room_of}
 use Rattle.session.proofs.PlanLaws.{plan_wrong, back_none, back_yes, back_last}
 use Rattle.stored.proofs.BytesLaws.{length-down}
 use Rattle.scene.specs.declared.Call.TheVariants.{TakeBack}
 use Rattle.stored.specs.Bytes.{step_at}
-use Rattle.replay.specs.Tables.{room_of_tables}
 use Rattle.replay.proofs.GroundLaws.{session_base, session_replayed}
 use Rattle.session.proofs.plan.plan_back.Goals as goal
 
@@ -12,8 +12,8 @@ use Rattle.session.proofs.plan.plan_back.Goals as goal
 pub returns-then-s-ne0 : goal.returns-then-s-ne0
 returns-then-s-ne0 c =
     let A = c.args in
-    let T = room_of_tables A.objects.now A.verdicts.now A.size in
-    let r = c.valid_shown-s in record {
+    let T = room_of A.tables in
+    let r = c.valid_list-s in record {
       plan = plan_wrong T A.session.now r.result r.ensures.plan TakeBack c.if-s-ne0.true;
       few_shown = (r.ensures.few, λ q. absurd (c.if-s-ne0.true q));
       last_places = λ q. absurd (c.if-s-ne0.true q);
@@ -21,11 +21,11 @@ returns-then-s-ne0 c =
 
 pub returns-then-n-eq0 : goal.returns-then-n-eq0
 returns-then-n-eq0 c =
-    let n = c.count-n in
+    let n = c.from-n in
     let A = c.args in
-    let T = room_of_tables A.objects.now A.verdicts.now A.size in
-    let r = c.valid_shown-s in record {
-      plan = back_none T A.session.now r.result r.ensures.plan c.if-s-ne0.false c.refused.result n.result n.ensures.0
+    let T = room_of A.tables in
+    let r = c.valid_list-s in record {
+      plan = back_none T A.session.now r.result r.ensures.plan c.if-s-ne0.false c.refused.result n.result n.ensures
           c.if-n-eq0.true c.refused.ensures.0;
       few_shown = (omega (arith, c.refused.ensures.1, r.ensures.few), λ q. absurd (thirteen (sym c.refused.ensures.0 ∙ q)));
       last_places = λ q. absurd (thirteen (sym c.refused.ensures.0 ∙ q));
@@ -34,25 +34,19 @@ returns-then-n-eq0 c =
     thirteen : ◌≡◌ {A = ℕ} 13 0 → ⊥
     thirteen q = omega arith
 
-pub replayed-requires : goal.replayed-requires
-replayed-requires c =
-    let p = c.requires in
-    let h = c.valid_shown-s.ensures.counted c.if-s-ne0.false in
-    (p.long_enough, omega arith, omega (arith, c.count-n.ensures.0))
-
 pub returns : goal.returns
 returns c =
-    let n = c.count-n in
+    let n = c.from-n in
     let A = c.args in
-    let T = room_of_tables A.objects.now A.verdicts.now A.size in
-    let r = c.valid_shown-s in
+    let T = room_of A.tables in
+    let r = c.valid_list-s in
     let h = r.ensures.counted c.if-s-ne0.false in
     let t = c.replayed in
     let R = session_replayed T A.session.now _ _ _ t.ensures in
     let base = (session_base T A.session.now).short in
     let all = length-down (step_at A.session.now) (n.result - 1) in
     let none = c.if-n-eq0.false in record {
-      plan = back_yes T A.session.now r.result r.ensures.plan c.if-s-ne0.false t.result n.result n.ensures.0 none _ R;
-      few_shown = (omega (arith, n.ensures.0), λ q. (omega (arith, n.ensures.0), omega (arith, none, n.ensures.0)));
-      last_places = back_last T A.session.now r.result r.ensures.plan c.if-s-ne0.false t.result n.result n.ensures.0 none _ R;
+      plan = back_yes T A.session.now r.result r.ensures.plan c.if-s-ne0.false t.result n.result n.ensures none _ R;
+      few_shown = (omega (arith, n.ensures), λ q. (omega (arith, n.ensures), omega (arith, none, n.ensures)));
+      last_places = back_last T A.session.now r.result r.ensures.plan c.if-s-ne0.false t.result n.result n.ensures none _ R;
     }

@@ -1,25 +1,18 @@
-use Rattle.std.proofs.Common.{subst}
 use Rattle.session.proofs.TouchLaws.{hide_touches, draw_touches}
 use Rattle.stored.specs.Bytes.{entries}
-use Rattle.replay.specs.Places.{scene_in, Near}
+use Rattle.replay.specs.Places.{scene_in}
 use Rattle.replay.specs.Tables.{room_of_tables}
 use Rattle.session.proofs.touch.touched.Goals as goal
 
 -- `session::touch::touched` meets its contract. Assumes nothing.
 
-pub entry_at-e-requires-in-Draw : goal.entry_at-e-requires-in-Draw
-entry_at-e-requires-in-Draw c =
-    let near = subst Near c.in-Draw.is c.requires.5 in
-    c.spot_of-at.ensures.stays_near near.1
-
 pub returns-in-Hide : goal.returns-in-Hide
 returns-in-Hide c =
-    let hidden = c.entry_at-e in
     let A = c.args in
     λ v.
     rw c.in-Hide.is
-    (hide_touches (room_of_tables A.objects.now v A.size) (scene_in A.places.now (entries A.s)) hidden.result
-    (record { object = c.in-Hide.object; state = 0; x = 0; y = 0 }) 128 A.strips.now _ hidden.ensures (c.mark_changes.ensures v))
+    (hide_touches (room_of_tables A.objects.rows.now v A.objects.size) (scene_in A.places.now (entries A.s)) c.entry_at-e.result
+    (record { object = c.in-Hide.object; state = 0; x = 0; y = 0 }) 128 A.strips.now _ c.entry_at-e.ensures (c.mark_changes.ensures v))
 
 pub returns-in-Draw : goal.returns-in-Draw
 returns-in-Draw c =
@@ -28,5 +21,5 @@ returns-in-Draw c =
     let A = c.args in
     λ v.
     rw c.in-Draw.is
-    (draw_touches (room_of_tables A.objects.now v A.size) (scene_in A.places.now (entries A.s)) c.in-Draw.object c.in-Draw.state c.in-Draw.place
+    (draw_touches (room_of_tables A.objects.rows.now v A.objects.size) (scene_in A.places.now (entries A.s)) c.in-Draw.object c.in-Draw.state c.in-Draw.place
     at.result drawn.result 128 A.strips.now _ (at.ensures.spot (entries A.s)) drawn.ensures (c.mark_changes-in-Draw.ensures v))

@@ -1,57 +1,38 @@
-use Rattle.std.proofs.Common.{◌≡◌, refl, sym, ◌∙◌, length, get_or, arith, rules}
+use Rattle.std.proofs.Common.{◌≡◌, sym, ◌∙◌, length, get_or, arith, rules}
 use Rattle.stored.specs.Layout.{shown_from, most_shown}
-use Rattle.stored.proofs.BytesLaws.{marks-start, marks-more, marks-all, marks-none}
+use Rattle.stored.proofs.BytesLaws.{marks_next, marks_end, marks-none}
 use Rattle.stored.proofs.Lists.{length_of_map}
 use Rattle.stored.proofs.bytes.agrees.Goals as goal
 
 -- `stored::bytes::agrees` meets its contract. Assumes nothing.
 
-pub count-requires : goal.count-requires
-count-requires c = tt
-
-pub returns-then-count-n : goal.returns-then-count-n
-returns-then-count-n c =
-    let args = c.args in
-    let S = args.s in
+pub returns-then-from-n : goal.returns-then-from-n
+returns-then-from-n c =
+    let S = c.args.s in
     let e : length S.list ≡ most_shown = search (rules, length_of_map) in
-    marks-none S.list S.n (omega arith) args.session.now shown_from (get_or args.session.now 1 0)
-    (λ q. c.if-count-n.true (c.count.ensures.0 ∙ q))
+    marks-none S.list S.n (omega arith) c.args.session.now shown_from _ (λ q. c.if-from-n.true (c.from.ensures ∙ q))
 
-pub loop-i-init : goal.loop-i-init
-loop-i-init c =
-    let pre = c.requires in let args = c.args in (
-      omega arith,
-      pre.1,
-      refl,
-      search (rules, length_of_map),
-      pre.0,
-      marks-start args.s.list args.s.n
-          (let e : length args.s.list ≡ most_shown = search (rules, length_of_map) in omega arith) args.session.now shown_from,
-    )
+pub returns-then-not-is_mark : goal.returns-then-not-is_mark
+returns-then-not-is_mark c =
+    let S = c.args.s in
+    let l = c.args.session.now in
+    let e : length S.list ≡ most_shown = search (rules, length_of_map) in
+    let n : get_or l 1 0 ≡ S.n = sym c.from.ensures ∙ c.if-from-n.false in
+    let s = marks_next S.list S.n (omega arith) l shown_from c.loop-k.k _ c.is_mark.result (omega arith) c.is_mark.ensures in
+    sym (rw (n, c.loop-k.invariant, s, c.if-not-is_mark.true))
 
-pub is_mark-same-requires : goal.is_mark-same-requires
-is_mark-same-requires c = tt
-
-pub loop-i-preserved : goal.loop-i-preserved
-loop-i-preserved c =
-    let loop = c.loop-i in
-    let args = c.args in
-    let v = loop.invariant in
-    let S = args.s in (
-      omega arith,
-      v.1,
-      v.2,
-      v.3,
-      v.4,
-      v.5 ∙ marks-more S.list S.n (omega arith) args.session.now shown_from loop.i
-          (record { object = 0; state = 0; x = 0; y = 0 }) loop.same c.is_mark-same.result (omega arith) c.is_mark-same.ensures,
-    )
+pub loop-k-preserved : goal.loop-k-preserved
+loop-k-preserved c =
+    let S = c.args.s in
+    let e : length S.list ≡ most_shown = search (rules, length_of_map) in
+    let s = marks_next S.list S.n (omega arith) c.args.session.now shown_from c.loop-k.k _ c.is_mark.result (omega arith) c.is_mark.ensures in
+    c.loop-k.invariant ∙ rw c.if-not-is_mark.false at s
 
 pub returns : goal.returns
 returns c =
-    let loop = c.loop-i in let if1 = c.if-count-n in let count = c.count in
-    let args = c.args in
-    let v = loop.invariant in
-    let S = args.s in
-    marks-all S.list S.n (omega arith) args.session.now shown_from loop.i (get_or args.session.now 1 0) loop.same (omega arith)
-    (sym if1.false ∙ count.ensures.0) v.5
+    let S = c.args.s in
+    let l = c.args.session.now in
+    let e : length S.list ≡ most_shown = search (rules, length_of_map) in
+    let n : get_or l 1 0 ≡ S.n = sym c.from.ensures ∙ c.if-from-n.false in
+    let s = marks_end S.list S.n (omega arith) l shown_from c.loop-k.k (omega arith) in
+    sym (rw n (c.loop-k.invariant ∙ s))
