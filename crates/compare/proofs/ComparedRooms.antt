@@ -2,7 +2,7 @@
 -- left strip is coded, which is no difference; the middle one has one pixel 6; the right one has an unused byte behind it, which is no difference either,
 -- and a row of plane 1. B declares one plane, so its ZP02, which is no right block, is not looked at. Then each refusal, in the rules' order.
 -- Assumes nothing.
-use Rattle.std.proofs.Common.{◌≡◌, refl, List, [], ◌∷◌, ◌++◌, ℕ, length}
+use Rattle.std.proofs.Common.{◌≡◌, refl, List, [], ◌∷◌, ◌++◌, ℕ, length, Ok}
 use Rattle.number.specs.Buffer.{over}
 use Rattle.number.specs.Number.{le16_bytes}
 use Rattle.bits.specs.Bits.{low_bits, bits_of}
@@ -20,7 +20,6 @@ use Rattle.room.specs.Test.{pictures_test, short, after_head, room_test}
 use Rattle.load.specs.Load.{background, mask}
 use Rattle.compare.specs.Compare.{differing, declared, pixels_differing, plane_differs, planes_differing, listed_to, list_bytes, outcome_of, compared_of}
 use Rattle.compare.specs.Compare.{answer_of, list_after, no}
-use Rattle.compare.specs.declared.Compared.TheVariants.{Listed}
 
 -- ROOM; RMHD 24, 1, 0; RMIM; RMIH 0; IM00; SMAP with three raw strips; ZP01 with a row in its first strip
 abbrev pub room_a : List ℕ
@@ -83,7 +82,7 @@ filled =
     (0x01 ∷ 0x00 ∷ 0x01 ∷ 0x00 ∷ 0x00 ∷ 0x00 ∷ 0x00 ∷ 0x00 ∷ [])
     ++ (0x02 ∷ 0x00 ∷ 0x00 ∷ 0x00 ∷ 0x01 ∷ 0x00 ∷ 0x00 ∷ 0x00 ∷ 0xEE ∷ [])
 
-pub compared_rooms : (answer_of (compared_of room_a room_b (length lent)) ≡ Listed 2) × (list_after (compared_of room_a room_b (length lent)) lent ≡ filled)
+pub compared_rooms : (answer_of (compared_of room_a room_b (length lent)) ≡ Ok 2) × (list_after (compared_of room_a room_b (length lent)) lent ≡ filled)
 unfolding low_bits bits_of decode rows_of five_from kind_of placed raw_of coded_of strip_of container block_end walk run block_ok well_formed tagged payload
     each_has offset_at offset_right offsets_right table_right body_end body_of strip_at rows_at pixel_at mask_at strip_test leftmost block_test headed_in
     background_in needed_in objects_right trns_in sizes_right room_of sized head_of plane_test smap_and_planes_test pictures_test short after_head room_test

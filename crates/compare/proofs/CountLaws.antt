@@ -1,5 +1,6 @@
 -- Laws of a count of places that differ, and of the planes' bits (change request 1). Assumes nothing.
-use Rattle.std.proofs.Common.{ℕ, zero, suc, ◌+◌, ◌*◌, ◌-◌, ◌/◌, ◌%◌, ◌^◌, ◌≤◌, ◌<◌, ◌≡◌, refl, sym, ap, ap₂, ◌∙◌, Bool, true, false, cond, eqb, mod-lt, add-zero, add-mul, pow-suc, div-add-mod', add-one, arith, pow-add, pow_pos, eq-eqb, ne_eqb, eqb-true}
+use Rattle.std.proofs.Common.{ℕ, zero, suc, ◌+◌, ◌*◌, ◌-◌, ◌/◌, ◌%◌, ◌^◌, ◌≤◌, ◌<◌, ◌≡◌, refl, sym, ap, ap₂, ◌∙◌, Bool, true, false, cond, not, eqb, mod-lt, add-zero, add-mul, pow-suc, div-add-mod', add-one, arith, pow-add, pow_pos, eq-eqb, ne_eqb, eqb-true}
+use Rattle.std.specs.Int.{from_bool}
 use mathlib.Core.Logic.{by_cases}
 use native.Mathlib.Decide.{ℕ_discrete}
 use lib.Arith.{digits_div}
@@ -44,9 +45,14 @@ pub differing-start : (f g : ℕ → ℕ) → 0 ≡ differing f g 0
 unfolding differing
 differing-start f g = refl
 
-pub differing-next : (f g : ℕ → ℕ) (i count more : ℕ) → count ≡ differing f g i → more ≡ cond (eqb (f i) (g i)) 0 1 → count + more ≡ differing f g (i + 1)
+pub differing-next : (f g : ℕ → ℕ) (i count more : ℕ) → count ≡ differing f g i → more ≡ from_bool (not (eqb (f i) (g i)))
+    → count + more ≡ differing f g (i + 1)
 unfolding differing
-differing-next f g i count more e q = rw (e, q, add-one i)
+differing-next f g i count more e q = rw (e, q, add-one i) (ap (λ (x : ℕ). differing f g i + x) (apart (eqb (f i) (g i))))
+  where
+    apart : (t : Bool) → from_bool (not t) ≡ cond t 0 1
+    apart true = refl
+    apart false = refl
 
 -- the count is the same of equal rows, and in either order
 pub differing-same : (f g f' g' : ℕ → ℕ) (n : ℕ) → ((i : ℕ) → i < n → f i ≡ f' i) → ((i : ℕ) → i < n → g i ≡ g' i) → differing f g n ≡ differing f' g' n
@@ -63,7 +69,7 @@ eqb_sym a b = go (eqb a b) refl
     go true e = sym (eq-eqb b a (sym (eqb-true a b e)))
     go false e = sym (ne_eqb b a (λ q. eqb-false a b e (sym q)))
 
-differing-few : (f g : ℕ → ℕ) (n : ℕ) → differing f g n ≤ n
+pub differing-few : (f g : ℕ → ℕ) (n : ℕ) → differing f g n ≤ n
 unfolding differing
 differing-few f g zero = omega arith
 differing-few f g (suc n) = go (eqb (f n) (g n)) (differing-few f g n)

@@ -1,14 +1,11 @@
 -- Laws of a comparison's outcome: which refusal, or the list. Assumes nothing.
-use Rattle.std.proofs.Common.{ℕ, ◌/◌, ◌≤◌, ◌<◌, ◌≡◌, refl, sym, ap, ◌∙◌, Bool, true, false, cond, ◌&&◌, List, ◌⊎◌, inl, inr, arith, eq-eqb, ne_eqb, le-leb, eqb-true, leb-true, leb-false, eqb, leb, length}
+use Rattle.std.proofs.Common.{ℕ, ◌/◌, ◌≤◌, ◌<◌, ◌≡◌, refl, sym, ap, ◌∙◌, Bool, true, false, cond, ◌&&◌, List, ◌⊎◌, inl, inr, arith, eq-eqb, ne_eqb, le-leb, eqb-true, leb-true, leb-false, eqb, leb, length, Result, Ok, Err}
 use borrow.Author.Tests.{lt-leb, eqb-false}
 use Rattle.room.specs.Test.{strips, room_test, nothing}
 use Rattle.room.specs.declared.Lent.{Lent}
 use Rattle.room.specs.declared.Room.{Room}
-use Rattle.room.specs.declared.Tested as room
-use Rattle.room.specs.declared.Tested.TheVariants.{Right, Refused}
 use Rattle.room.proofs.TestLaws.{test-passes}
 use Rattle.compare.specs.Compare.{Rooms, rooms, Outcome, no, ok, difference_at, differences, outcome_of, outcome_by_b, outcome_by_a, compared_of, answer_of, value}
-use Rattle.compare.specs.declared.Compared.{Compared}
 use Rattle.compare.specs.Tables.{Tested}
 use Rattle.compare.proofs.PlaceLaws.{listed-few}
 
@@ -45,23 +42,23 @@ same_outcome m m' size wide high same =
 
 -- ---- both tests
 
-pub test_is : (s : List ℕ) (lent : Lent) (t u : room.Tested) → lent ≡ nothing → t ≡ room_test lent s → t ≡ u → room_test nothing s ≡ u
+pub test_is : (s : List ℕ) (lent : Lent) (t u : Result Room ℕ) → lent ≡ nothing → t ≡ room_test lent s → t ≡ u → room_test nothing s ≡ u
 test_is s lent t u none test is = sym (ap (λ (l : Lent). room_test l s) none) ∙ sym test ∙ is
 
-pub tested : (s : List ℕ) (r : Room) → room_test nothing s ≡ Right r → Tested s r
+pub tested : (s : List ℕ) (r : Room) → room_test nothing s ≡ Ok r → Tested s r
 tested s r right = let passes = test-passes nothing s r (sym right) in record { sound = passes.sound; passes = passes.pictures }
 
 module _ (a b : List ℕ) (size : ℕ) where
-  pub a-refused : (n : ℕ) → room_test nothing a ≡ Refused n → compared_of a b size ≡ no n
+  pub a-refused : (n : ℕ) → room_test nothing a ≡ Err n → compared_of a b size ≡ no n
   unfolding compared_of
   a-refused n refused = rw refused
 
-  module _ (ra : Room) (first : room_test nothing a ≡ Right ra) where
-    pub b-refused : (n : ℕ) → room_test nothing b ≡ Refused n → compared_of a b size ≡ no n
+  module _ (ra : Room) (first : room_test nothing a ≡ Ok ra) where
+    pub b-refused : (n : ℕ) → room_test nothing b ≡ Err n → compared_of a b size ≡ no n
     unfolding compared_of
     b-refused n refused = rw (first, refused)
 
-    pub both_right : (rb : Room) → room_test nothing b ≡ Right rb → compared_of a b size ≡ outcome_of (rooms a ra b rb) size
+    pub both_right : (rb : Room) → room_test nothing b ≡ Ok rb → compared_of a b size ≡ outcome_of (rooms a ra b rb) size
     unfolding compared_of
     both_right rb second = rw (first, second)
 
@@ -69,7 +66,7 @@ module _ (a b : List ℕ) (size : ℕ) where
 
   -- both pass, and P holds of them
   abbrev pub Both : (Room → Room → Type 0) → Type 0
-  Both P = (ra : Room) × (rb : Room) × (room_test nothing a ≡ Right ra) × (room_test nothing b ≡ Right rb) × P ra rb
+  Both P = (ra : Room) × (rb : Room) × (room_test nothing a ≡ Ok ra) × (room_test nothing b ≡ Ok rb) × P ra rb
 
   abbrev pub SizesDiffer : (ra rb : Room) → Type 0
   SizesDiffer ra rb = (ra.width ≡ rb.width → ⊥) ⊎ (ra.height ≡ rb.height → ⊥)
@@ -82,13 +79,13 @@ module _ (a b : List ℕ) (size : ℕ) where
 
   abbrev pub Verdict : Outcome → Type 0
   Verdict (no n) =
-      (room_test nothing a ≡ Refused n)
-      ⊎ ((ra : Room) × (room_test nothing a ≡ Right ra) × (room_test nothing b ≡ Refused n))
+      (room_test nothing a ≡ Err n)
+      ⊎ ((ra : Room) × (room_test nothing a ≡ Ok ra) × (room_test nothing b ≡ Err n))
       ⊎ ((n ≡ 16) × Both SizesDiffer)
       ⊎ ((n ≡ 4) × Both ListShort)
   Verdict (ok ds) = Both (λ ra rb. ListEnough ra rb × (ds ≡ differences (rooms a ra b rb)))
 
-  module _ (ra rb : Room) (first : room_test nothing a ≡ Right ra) (second : room_test nothing b ≡ Right rb) where
+  module _ (ra rb : Room) (first : room_test nothing a ≡ Ok ra) (second : room_test nothing b ≡ Ok rb) where
     abbrev places : ℕ
     places = length (differences (rooms a ra b rb))
 
@@ -106,20 +103,20 @@ module _ (a b : List ℕ) (size : ℕ) where
     outcome_is =
         sizes_are (eqb ra.width rb.width) (eqb ra.height rb.height) (leb places (size / 8)) refl refl refl
 
-  second_is : (ra : Room) → room_test nothing a ≡ Right ra → (t : room.Tested) → room_test nothing b ≡ t → Verdict (outcome_by_b a ra b size t)
-  second_is ra first (Right rb) second = outcome_is ra rb first second
-  second_is ra first (Refused n) second = inr (inl (ra, first, second))
+  second_is : (ra : Room) → room_test nothing a ≡ Ok ra → (t : Result Room ℕ) → room_test nothing b ≡ t → Verdict (outcome_by_b a ra b size t)
+  second_is ra first (Ok rb) second = outcome_is ra rb first second
+  second_is ra first (Err n) second = inr (inl (ra, first, second))
 
-  first_is : (t : room.Tested) → room_test nothing a ≡ t → Verdict (outcome_by_a a b size t)
-  first_is (Right ra) first = second_is ra first (room_test nothing b) refl
-  first_is (Refused n) first = inl first
+  first_is : (t : Result Room ℕ) → room_test nothing a ≡ t → Verdict (outcome_by_a a b size t)
+  first_is (Ok ra) first = second_is ra first (room_test nothing b) refl
+  first_is (Err n) first = inl first
 
   pub verdict : Verdict (compared_of a b size)
   unfolding compared_of
   verdict = first_is (room_test nothing a) refl
 
 -- no list has more places than a room has strips
-pub value-few : (a b : List ℕ) (size : ℕ) (r : Compared) → r ≡ answer_of (compared_of a b size) → value r ≤ 128
+pub value-few : (a b : List ℕ) (size : ℕ) (r : Result ℕ ℕ) → r ≡ answer_of (compared_of a b size) → value r ≤ 128
 value-few a b size r e = rw e (go (compared_of a b size) (verdict a b size))
   where
     go : (o : Outcome) → Verdict a b size o → value (answer_of o) ≤ 128

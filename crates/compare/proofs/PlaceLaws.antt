@@ -1,5 +1,6 @@
 -- Laws of the list's places: how many there are, and the bytes that they take. Assumes nothing.
 use Rattle.std.proofs.Common.{ℕ, zero, suc, ◌+◌, ◌-◌, ◌*◌, ◌≤◌, ◌<◌, ◌≡◌, refl, sym, ap, ap₂, ◌∙◌, Bool, true, false, cond, List, [], ◌∷◌, ◌++◌, append_assoc, le_of_suc-le-suc, add-one, arith, length, get_or, length-append, get_or-append-add}
+use Rattle.std.specs.Int.{from_bool}
 use lib.ListN.{get_or-append}
 use lib.Seq.{sets}
 use Rattle.number.specs.Number.{le16_bytes}
@@ -13,14 +14,14 @@ pub listed_start : (f : ℕ → Difference) → 0 ≡ length (listed_to f 0)
 unfolding listed_to
 listed_start f = refl
 
-next-length : (d : Difference) → length (next d) ≡ cond (is_different d) 1 0
+next-length : (d : Difference) → length (next d) ≡ from_bool (is_different d)
 next-length d = go (is_different d)
   where
-    go : (t : Bool) → length (cond t (d ∷ []) []) ≡ cond t 1 0
+    go : (t : Bool) → length (cond t (d ∷ []) []) ≡ from_bool t
     go true = refl
     go false = refl
 
-pub listed_next : (f : ℕ → Difference) (k count more : ℕ) → count ≡ length (listed_to f k) → more ≡ cond (is_different (f k)) 1 0
+pub listed_next : (f : ℕ → Difference) (k count more : ℕ) → count ≡ length (listed_to f k) → more ≡ from_bool (is_different (f k))
     → count + more ≡ length (listed_to f (k + 1))
 unfolding listed_to
 listed_next f k count more e q = rw (add-one k) (ap₂ ◌+◌ e (q ∙ sym (next-length (f k))) ∙ sym (length-append (listed_to f k) (next (f k))))

@@ -1,16 +1,11 @@
 -- Laws of what the code reads and keeps of two rooms: a strip's pixels and rows in its scratch, and the two tables. Assumes nothing.
-use Rattle.std.proofs.Common.{ℕ, suc, ◌+◌, ◌*◌, ◌/◌, ◌%◌, ◌^◌, ◌≤◌, ◌<◌, ◌≡◌, refl, ap, ap₂, ◌∙◌, Bool, true, false, cond, not, List, add-one, arith, leb-true, eqb, leb, get_or}
-use Rattle.block.specs.declared.Found.{Found}
-use Rattle.block.specs.declared.Found.TheVariants.{At, Missing}
+use Rattle.std.proofs.Common.{ℕ, suc, ◌+◌, ◌*◌, ◌/◌, ◌%◌, ◌^◌, ◌≤◌, ◌<◌, ◌≡◌, refl, ap, ap₂, ◌∙◌, Bool, true, false, cond, not, List, add-one, arith, leb-true, eqb, leb, get_or, Option, Some, None, Result, Ok}
 use Rattle.block.proofs.Laws.{nth_at}
 use Rattle.strip.specs.Picture.{Answered}
 use Rattle.strip.specs.Strip.{Filled}
-use Rattle.strip.specs.declared.Answer.{Answer}
-use Rattle.strip.specs.declared.Made.{Made}
 use Rattle.table.specs.Table.{table_right}
 use Rattle.table.specs.Body.{strip_at, rows_at, mask_at}
 use Rattle.table.specs.Test.{block_test}
-use Rattle.table.specs.declared.Test.TheVariants.{Passed}
 use Rattle.table.proofs.BlockLaws.{block-table, block-strip}
 use Rattle.room.specs.Picture.{plane_in, found_mask, plane_found, plane_test}
 use Rattle.room.specs.Test.{strips}
@@ -26,13 +21,13 @@ use Rattle.compare.proofs.PlaceLaws.{listed_same}
 -- ---- pixels
 
 module _ (s : List ℕ) (r : Room) (n h : ℕ) (tested : Tested s r) (wide : n ≡ strips r) (high : h ≡ r.height) where
-  block-right : block_test false n h s r.smap r.smap_end ≡ Passed
+  block-right : block_test false n h s r.smap r.smap_end ≡ Ok tt
   block-right = rw (wide, high) (background-passes s r tested.passes)
 
   pub strip-table : table_right false n s r.smap r.smap_end ≡ true
   strip-table = block-table false n h s r.smap r.smap_end block-right
 
-  pub strip_read : (k : ℕ) → k < n → (d e : List ℕ) (x : Answer) → Answered (strip_at n h s r.smap r.smap_end k) d e x
+  pub strip_read : (k : ℕ) → k < n → (d e : List ℕ) (x : Result Bool ℕ) → Answered (strip_at n h s r.smap r.smap_end k) d e x
       → (j : ℕ) → j < 8 * h → get_or e j 0 ≡ strip_pixel s r k j
   unfolding background
   strip_read k lt d e x read j lj =
@@ -49,13 +44,13 @@ module _ (a : List ℕ) (ra : Room) (b : List ℕ) (rb : Room) (k : ℕ) where
 -- ---- planes
 
 module _ (s : List ℕ) (r : Room) (n h : ℕ) (tested : Tested s r) (wide : n ≡ strips r) (high : h ≡ r.height) (p : ℕ) (first : 1 ≤ p) where
-  in_room : (f : Found) → f ≡ plane_in s r.image r.image_end p → Lies s f
-  in_room (At b z) e =
+  in_room : (f : Option (ℕ × ℕ)) → f ≡ plane_in s r.image r.image_end p → Lies s f
+  in_room (Some (b, z)) e =
       let place = nth_at _ _ _ _ _ _ _ e in
       (omega (arith, place), omega (arith, place, tested.sound.image_last))
-  in_room Missing e = tt
+  in_room None e = tt
 
-  plane-right : p ≤ r.planes → plane_found n h s (plane_in s r.image r.image_end p) ≡ Passed
+  plane-right : p ≤ r.planes → plane_found n h s (plane_in s r.image r.image_end p) ≡ Ok tt
   unfolding plane_test
   plane-right le = rw (wide, high) (plane-passes s r tested.passes p first le)
 
@@ -63,15 +58,16 @@ module _ (s : List ℕ) (r : Room) (n h : ℕ) (tested : Tested s r) (wide : n �
   pub declared_sure : Sure n h s (declared_in s r p)
   declared_sure = go (leb p r.planes) refl
     where
-      go : (t : Bool) → leb p r.planes ≡ t → Sure n h s (cond t (plane_in s r.image r.image_end p) Missing)
+      go : (t : Bool) → leb p r.planes ≡ t → Sure n h s (cond t (plane_in s r.image r.image_end p) None)
       go true e = record { lies = in_room (plane_in s r.image r.image_end p) refl; passes = plane-right (leb-true p r.planes e) }
       go false e = record { lies = tt; passes = refl }
 
-module _ (n h : ℕ) (s : List ℕ) (b z k : ℕ) (sure : Sure n h s (At b z)) where
+module _ (n h : ℕ) (s : List ℕ) (b z k : ℕ) (sure : Sure n h s (Some (b, z))) where
   pub rows_table : table_right true n s b z ≡ true
   rows_table = block-table true n h s b z sure.passes
 
-  pub rows_read : k < n → (d e : List ℕ) (x : Made) → Filled h (rows_at n h s b z k) d e x → (y : ℕ) → y < h → get_or e y 0 ≡ mask_at n h s b z k y
+  pub rows_read : k < n → (d e : List ℕ) (x : Result (Unit {0}) ℕ) → Filled h (rows_at n h s b z k) d e x
+      → (y : ℕ) → y < h → get_or e y 0 ≡ mask_at n h s b z k y
   rows_read lt d e x filled y ly = read_row n h s b z k d e x (block-strip true n h s b z sure.passes k lt) filled y ly
 
 -- an undeclared plane reads as zero
@@ -79,7 +75,7 @@ declared-found : (s : List ℕ) (r : Room) (n h p k y : ℕ) → n ≡ strips r 
 unfolding declared mask
 declared-found s r n h p k y wide high = rw (wide, high) (go (leb p r.planes))
   where
-    go : (t : Bool) → found_mask (strips r) r.height s (cond t (plane_in s r.image r.image_end p) Missing) k y
+    go : (t : Bool) → found_mask (strips r) r.height s (cond t (plane_in s r.image r.image_end p) None) k y
         ≡ cond t (found_mask (strips r) r.height s (plane_in s r.image r.image_end p) k y) 0
     go true = refl
     go false = refl
@@ -97,7 +93,7 @@ module _ (a : List ℕ) (ra : Room) (b : List ℕ) (rb : Room) (ok : Comparable 
       (λ y l. declared-found b rb (strips ra) ra.height p k y wide-b ok.height))
 
   -- one plane more in each strip
-  pub marks-more : (q bit : ℕ) (f g : Found) (old new : List ℕ) → f ≡ declared_in a ra (q + 1) → g ≡ declared_in b rb (q + 1) → bit ≡ 2 ^ q
+  pub marks-more : (q bit : ℕ) (f g : Option (ℕ × ℕ)) (old new : List ℕ) → f ≡ declared_in a ra (q + 1) → g ≡ declared_in b rb (q + 1) → bit ≡ 2 ^ q
       → Marks (rooms a ra b rb) q (strips ra) old
       → ((j : ℕ) → j < strips ra → get_or new j 0 ≡ get_or old j 0 + cond (found_differ (strips ra) ra.height a f b g j) bit 0)
       → Marks (rooms a ra b rb) (suc q) (strips ra) new

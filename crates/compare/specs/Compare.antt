@@ -1,16 +1,12 @@
 -- Two rooms compared strip by strip (change request 1): "the answer is a list by strip, left to right: for each strip whose pixels or whose rows in any
 -- plane differ, the strip number, how many pixels differ and which planes differ." Only what the rooms decode to is asked. a and b are the rooms' bytes,
 -- ra and rb their sizes, and both have the same width and height.
-use Rattle.std.specs.Prelude.{ℕ, zero, suc, ◌+◌, ◌*◌, ◌/◌, ◌%◌, ◌^◌, max, Bool, cond, not, ◌&&◌, ◌||◌, List, [], ◌∷◌, ◌++◌, eqb, leb, length}
+use Rattle.std.specs.Prelude.{ℕ, zero, suc, ◌+◌, ◌*◌, ◌/◌, ◌%◌, ◌^◌, max, Bool, cond, not, ◌&&◌, ◌||◌, List, [], ◌∷◌, ◌++◌, eqb, leb, length, Result, Ok, Err}
 use Rattle.number.specs.Number.{le16_bytes}
 use Rattle.number.specs.Buffer.{over}
 use Rattle.room.specs.Test.{strips, room_test, nothing}
 use Rattle.room.specs.declared.Room.{Room}
-use Rattle.room.specs.declared.Tested.{Tested}
-use Rattle.room.specs.declared.Tested.TheVariants as tested
 use Rattle.load.specs.Load.{background, mask}
-use Rattle.compare.specs.declared.Compared.{Compared}
-use Rattle.compare.specs.declared.Compared.TheVariants.{Listed, Refused}
 
 -- ---- one strip
 
@@ -103,31 +99,31 @@ outcome_of m size =
     (no 16)
 
 -- "Refusals: room A's first, then room B's"
-abbrev pub outcome_by_b : (a : List ℕ) → Room → (b : List ℕ) → (size : ℕ) → Tested → Outcome
-outcome_by_b a ra b size (tested.Right rb) = outcome_of (rooms a ra b rb) size
-outcome_by_b a ra b size (tested.Refused n) = no n
+abbrev pub outcome_by_b : (a : List ℕ) → Room → (b : List ℕ) → (size : ℕ) → Result Room ℕ → Outcome
+outcome_by_b a ra b size (Ok rb) = outcome_of (rooms a ra b rb) size
+outcome_by_b a ra b size (Err n) = no n
 
-abbrev pub outcome_by_a : (a b : List ℕ) → (size : ℕ) → Tested → Outcome
-outcome_by_a a b size (tested.Right ra) = outcome_by_b a ra b size (room_test nothing b)
-outcome_by_a a b size (tested.Refused n) = no n
+abbrev pub outcome_by_a : (a b : List ℕ) → (size : ℕ) → Result Room ℕ → Outcome
+outcome_by_a a b size (Ok ra) = outcome_by_b a ra b size (room_test nothing b)
+outcome_by_a a b size (Err n) = no n
 
 unfoldable pub compared_of : (a b : List ℕ) → (size : ℕ) → Outcome
 compared_of a b size = outcome_by_a a b size (room_test nothing a)
 
 -- the answer, and the lent list afterwards
-abbrev pub answer_of : Outcome → Compared
-answer_of (no n) = Refused n
-answer_of (ok ds) = Listed (length ds)
+abbrev pub answer_of : Outcome → Result ℕ ℕ
+answer_of (no n) = Err n
+answer_of (ok ds) = Ok (length ds)
 
 abbrev pub list_after : Outcome → List ℕ → List ℕ
 list_after (no n) list = list
 list_after (ok ds) list = over (list_bytes ds) list
 
 -- document 01's number for each case of an answer, and its value: how many places were filled
-abbrev pub number : Compared → ℕ
-number (Refused n) = n
-number (Listed count) = 0
+abbrev pub number : Result ℕ ℕ → ℕ
+number (Err n) = n
+number (Ok count) = 0
 
-abbrev pub value : Compared → ℕ
-value (Refused n) = 0
-value (Listed count) = count
+abbrev pub value : Result ℕ ℕ → ℕ
+value (Err n) = 0
+value (Ok count) = count

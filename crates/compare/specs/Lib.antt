@@ -1,3 +1,4 @@
 pub mod Compare
 pub mod Listed
+pub mod Pair
 pub mod Tables

@@ -1,9 +1,6 @@
 -- What the code's tables hold: of each strip how many pixels differ, and which planes.
 -- For the proofs: no public promise rests on what this page says.
-use Rattle.std.specs.Prelude.{ℕ, ◌≤◌, ◌<◌, ◌≡◌, Bool, cond, not, List, eqb, leb, length, get_or}
-use Rattle.block.specs.declared.Found.{Found}
-use Rattle.block.specs.declared.Found.TheVariants.{At, Missing}
-use Rattle.table.specs.declared.Test.TheVariants.{Passed}
+use Rattle.std.specs.Prelude.{ℕ, ◌≤◌, ◌<◌, ◌≡◌, Bool, cond, not, List, eqb, leb, length, get_or, Option, Some, None, Ok}
 use Rattle.room.specs.Head.{Sound}
 use Rattle.room.specs.Picture.{plane_in, plane_found, found_mask}
 use Rattle.room.specs.Test.{pictures_test}
@@ -13,7 +10,7 @@ use Rattle.compare.specs.Compare.{Rooms, Difference, differing, pixels_differing
 -- a room that passed its test
 pub record Tested (s : List ℕ) (r : Room) : Type 0 where
   pub sound : Sound s r
-  pub passes : pictures_test s r ≡ Passed
+  pub passes : pictures_test s r ≡ Ok tt
 
 -- both rooms passed their tests, and have the same size
 pub record Comparable (a : List ℕ) (ra : Room) (b : List ℕ) (rb : Room) : Type 0 where
@@ -23,21 +20,21 @@ pub record Comparable (a : List ℕ) (ra : Room) (b : List ℕ) (rb : Room) : Ty
   pub height : ra.height ≡ rb.height
 
 -- where plane p stands; an undeclared one counts as missing
-abbrev pub declared_in : List ℕ → Room → (p : ℕ) → Found
-declared_in s r p = cond (leb p r.planes) (plane_in s r.image r.image_end p) Missing
+abbrev pub declared_in : List ℕ → Room → (p : ℕ) → Option (ℕ × ℕ)
+declared_in s r p = cond (leb p r.planes) (plane_in s r.image r.image_end p) None
 
 -- a block that was found lies in the room
-abbrev pub Lies : List ℕ → Found → Type 0
-Lies s (At b z) = (b ≤ z) × (z ≤ length s)
-Lies s Missing = Unit {0}
+abbrev pub Lies : List ℕ → Option (ℕ × ℕ) → Type 0
+Lies s (Some (b, z)) = (b ≤ z) × (z ≤ length s)
+Lies s None = Unit {0}
 
 -- a plane that was found lies in the room and passes its test
-pub record Sure (n h : ℕ) (s : List ℕ) (f : Found) : Type 0 where
+pub record Sure (n h : ℕ) (s : List ℕ) (f : Option (ℕ × ℕ)) : Type 0 where
   pub lies : Lies s f
-  pub passes : plane_found n h s f ≡ Passed
+  pub passes : plane_found n h s f ≡ Ok tt
 
 -- whether strip k of two planes that were looked for differs
-abbrev pub found_differ : (n h : ℕ) → List ℕ → Found → List ℕ → Found → (k : ℕ) → Bool
+abbrev pub found_differ : (n h : ℕ) → List ℕ → Option (ℕ × ℕ) → List ℕ → Option (ℕ × ℕ) → (k : ℕ) → Bool
 found_differ n h a f b g k = not (eqb (differing (found_mask n h a f k) (found_mask n h b g k) h) 0)
 
 -- the counts of the first n strips; the planes up to q of each

@@ -1,15 +1,6 @@
 // How many bytes of two rows differ.
-ghost use Rattle.std.specs.Prelude.{◌≡◌, cond, ◌≤◌, eqb, length, get_or};
+ghost use Rattle.std.specs.Prelude.{◌≡◌, ◌≤◌, length, get_or};
 ghost use Rattle.compare.specs.Compare.{differing};
-
-fn unlike(x: u8, y: u8) -> u32
-    ensures { (result ≡ cond (eqb x y) 0 1) × (result ≤ 1) }
-{
-    if x == y {
-        return 0;
-    }
-    1
-}
 
 // At how many of the first n places f and g differ.
 pub fn unequal(f: &[u8], g: &[u8], n: usize) -> u32
@@ -18,10 +9,8 @@ pub fn unequal(f: &[u8], g: &[u8], n: usize) -> u32
     ensures at_most_n { result ≤ n }
 {
     let mut count: u32 = 0;
-    let mut i: usize = 0;
-    while i < n {
-        count += unlike(f[i], g[i]);
-        i += 1;
+    for i in 0..n {
+        count += u32::from(f[i] != g[i]);
     }
     count
 }

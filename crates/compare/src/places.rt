@@ -1,5 +1,5 @@
 // The list's places, from the tables of counts and marks.
-ghost use Rattle.std.specs.Prelude.{◌≡◌, cond, ◌+◌, ◌*◌, ◌≤◌, ◌<◌, length};
+ghost use Rattle.std.specs.Prelude.{◌≡◌, ◌+◌, ◌*◌, ◌≤◌, ◌<◌, length};
 ghost use Rattle.std.proofs.lemmas.List.Edits.{sets};
 ghost use Rattle.number.specs.Buffer.{over};
 ghost use Rattle.compare.specs.Compare.{is_different, next, listed_to, list_bytes, place_bytes};
@@ -13,16 +13,7 @@ fn is_off(counts: &[u32], marks: &[u8], k: usize) -> bool
     requires { (k < length counts.now) × (k < length marks.now) }
     ensures { result ≡ is_different (table_at counts.now marks.now k) }
 {
-    (counts[k] != 0) | (marks[k] != 0)
-}
-
-fn one(b: bool) -> usize
-    ensures { (result ≡ cond b 1 0) × (result ≤ 1) }
-{
-    if b {
-        return 1;
-    }
-    0
+    counts[k] != 0 || marks[k] != 0
 }
 
 // How many of the first n strips differ.
@@ -31,10 +22,8 @@ pub fn count_places(counts: &[u32], marks: &[u8], n: usize) -> usize
     ensures { (result ≡ length (listed_to (table_at counts.now marks.now) n)) × (result ≤ n) }
 {
     let mut count: usize = 0;
-    let mut k: usize = 0;
-    while k < n {
-        count += one(is_off(counts, marks, k));
-        k += 1;
+    for k in 0..n {
+        count += usize::from(is_off(counts, marks, k));
     }
     count
 }
@@ -70,9 +59,7 @@ pub fn put_places(counts: &[u32], marks: &[u8], n: usize, list: &mut [u8])
         ≡ over (list_bytes (listed_to (table_at counts.now marks.now) n)) list.old }
 {
     let mut at: usize = 0;
-    let mut k: usize = 0;
-    while k < n {
+    for k in 0..n {
         at = put_next(list, at, counts, marks, k);
-        k += 1;
     }
 }

@@ -1,13 +1,10 @@
 -- Laws of an entry that could be drawn: what its tests say of its numbers, and what its image's strips and planes are. Assumes nothing.
-use Rattle.std.proofs.Common.{◌≡◌, refl, sym, ap, ap₂, ◌∙◌, Bool, true, false, not, cond, ◌&&◌, List, ℕ, ◌+◌, ◌-◌, ◌*◌, ◌/◌, ◌%◌, ◌≤◌, ◌<◌, arith, leb-true, ltb-true, leb, ltb, eqb, get_or}
+use Rattle.std.proofs.Common.{◌≡◌, refl, sym, ap, ap₂, ◌∙◌, Bool, true, false, not, cond, ◌&&◌, List, ℕ, ◌+◌, ◌-◌, ◌*◌, ◌/◌, ◌%◌, ◌≤◌, ◌<◌, arith, leb-true, ltb-true, leb, ltb, eqb, get_or, Option, Some, None, Ok}
 use Rattle.number.proofs.BoolLaws.{and_left, and_right}
 use Rattle.block.specs.Tag.{tag-SMAP}
 use Rattle.block.specs.Tree.{find_tag, is_at}
-use Rattle.block.specs.declared.Found.{Found}
-use Rattle.block.specs.declared.Found.TheVariants.{At, Missing}
 use Rattle.block.proofs.Laws.{nth_at}
 use Rattle.table.specs.Body.{strip_at, pixels_of}
-use Rattle.table.specs.declared.Test.TheVariants.{Passed}
 use Rattle.table.proofs.BlockLaws.{not-passed}
 use Rattle.room.specs.Head.{Sound}
 use Rattle.room.specs.Test.{strips}
@@ -30,13 +27,13 @@ use Rattle.layers.specs.Ready.{Paintable}
 use Rattle.layers.proofs.EveryLaws.{every_rows}
 
 -- an image without refusal has an SMAP
-smap-of : (planes n h : ℕ) (s : List ℕ) (f : Found) → state_test planes n h s f ≡ Passed → is_at (smap_of s f) ≡ true
-smap-of planes n h s (At b z) passed = go (find_tag tag-SMAP s (b + 8) z) (image_has_smap planes n h s (b + 8) z passed)
+smap-of : (planes n h : ℕ) (s : List ℕ) (f : Option (ℕ × ℕ)) → state_test planes n h s f ≡ Ok tt → is_at (smap_of s f) ≡ true
+smap-of planes n h s (Some (b, z)) passed = go (find_tag tag-SMAP s (b + 8) z) (image_has_smap planes n h s (b + 8) z passed)
   where
-    go : (f : Found) → (f ≡ Missing → ⊥) → is_at f ≡ true
-    go (At b' z') h = refl
-    go Missing h = absurd (h refl)
-smap-of planes n h s Missing passed = absurd (not-passed 2 passed)
+    go : (f : Option (ℕ × ℕ)) → (f ≡ None → ⊥) → is_at f ≡ true
+    go (Some (b', z')) h = refl
+    go None h = absurd (h refl)
+smap-of planes n h s None passed = absurd (not-passed 2 passed)
 
 -- what the tests of an entry say
 pub record EntryFits (s : List ℕ) (r : Room) (e : Entry) : Type 0 where
@@ -106,10 +103,10 @@ module _ (s : List ℕ) (r : Room) (e : Entry) (p : Paintable s r e) where
     abbrev h : ℕ
     h = image_height s o
 
-    tested : image_test r.planes n h s (at.block + 8) m.payload_end ≡ Passed
+    tested : image_test r.planes n h s (at.block + 8) m.payload_end ≡ Ok tt
     tested = fault_at r.planes s o st at.block m.payload_end at.block_at ∙ p.no-fault
 
-    smap_here : At m.smap m.smap_end ≡ find_tag tag-SMAP s (at.block + 8) m.payload_end
+    smap_here : Some (m.smap, m.smap_end) ≡ find_tag tag-SMAP s (at.block + 8) m.payload_end
     smap_here = rw at.payload-at at at.smap_at
 
     source_readable : Sound s r → Readable s m

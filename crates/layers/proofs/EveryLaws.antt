@@ -1,5 +1,6 @@
 -- Laws of a test at every number below n, and of a strip with no transparent pixel. Assumes nothing.
-use Rattle.std.proofs.Common.{◌≡◌, refl, sym, ap, ◌∙◌, subst, Bool, true, false, not, ◌&&◌, List, ℕ, zero, suc, ◌+◌, ◌*◌, ◌/◌, ◌%◌, ◌<◌, add-one, arith, eqb, get_or}
+use Rattle.std.proofs.Common.{◌≡◌, refl, sym, ap, ◌∙◌, subst, Bool, true, false, not, ◌&&◌, List, ℕ, zero, suc, ◌+◌, ◌*◌, ◌/◌, ◌%◌, ◌<◌, add-one, arith, eqb, get_or, take, length, ◌≤◌, length-take, get_or-take}
+use Rattle.std.specs.List.{IsAnyAnswer}
 use mathlib.Core.Bool.{false≢true}
 use mathlib.Core.Logic.{by_cases}
 use native.Mathlib.Decide.{ℕ_discrete}
@@ -51,7 +52,7 @@ every_rows n f g same = go (every (8 * n) f) (every n (λ r. every 8 (λ c. g r 
         ap f (sym split) ∙ same (i / 8) (i % 8) (omega arith) (omega arith)
         ∙ every_at (λ c. g (i / 8) c) 8 (every_at (λ r. every 8 (λ c. g r c)) n q (i / 8) (omega arith)) (i % 8) (omega arith))
 
--- the loop over a strip's pixels, as code makes it
+-- the test of a strip's pixels, one after the other
 module _ (index : ℕ) (clear : Bool) (values : List ℕ) (n : ℕ) where
   abbrev pub shut : ℕ → Bool
   shut i = not (clear && eqb (get_or values i 0) index)
@@ -68,6 +69,26 @@ module _ (index : ℕ) (clear : Bool) (values : List ℕ) (n : ℕ) where
       → none_clear index clear values (i + 1) ≡ true
   unfolding none_clear
   clear-more i so h = every_more shut i so (ap not h)
+
+-- the test of a strip's first n pixels, as code makes it
+module _ (index : ℕ) (values : List ℕ) (n : ℕ) (fits : n ≤ length values) where
+  abbrev Held : Bool → Type 0
+  Held held = IsAnyAnswer (λ y b. eqb y index ≡ b) (take n values) held
+
+  abbrev shut_at : Bool → ℕ → Bool
+  shut_at clear i = not (clear && eqb (get_or values i 0) index)
+
+  pub clear_held : (held : Bool) → Held held → not held ≡ none_clear index true values n
+  unfolding none_clear
+  clear_held true (k, lt, at) =
+      let below : k < n = omega (arith, length-take n values) in
+      every-not (shut_at true) n k below (ap not (rw (get_or-take n values k 0 below) at (at 0)))
+  clear_held false none =
+      sym (every_of (shut_at true) n (λ i lt. ap not (rw (get_or-take n values i 0 lt) at (none i 0 (omega arith) (omega (arith, length-take n values))))))
+
+  pub clear_shut : true ≡ none_clear index false values n
+  unfolding none_clear
+  clear_shut = sym (every_of (shut_at false) n (λ i lt. refl))
 
 pub every_ext : (f g : ℕ → Bool) (n : ℕ) → ((i : ℕ) → i < n → f i ≡ g i) → every n f ≡ every n g
 unfolding every

@@ -4,3 +4,4 @@ pub mod SourceLaws
 pub mod EntryLaws
 pub mod LayerLaws
 pub mod PaintLaws
+pub mod RangeLaws

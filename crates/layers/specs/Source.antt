@@ -1,17 +1,15 @@
 -- Where a picture is read from, a room's background or an object's image: the payload of the block that holds it, its SMAP block with
 -- its header, and its sizes (document 01, "Blocks", "Sessions").
 -- For the proofs: no public promise rests on what this page says.
-use Rattle.std.specs.Prelude.{ℕ, ◌+◌, ◌-◌, ◌*◌, ◌/◌, ◌%◌, ◌≤◌, ◌≡◌, Bool, false, cond, List, length, get_or}
+use Rattle.std.specs.Prelude.{ℕ, ◌+◌, ◌-◌, ◌*◌, ◌/◌, ◌%◌, ◌≤◌, ◌≡◌, Bool, false, cond, List, length, get_or, Some, Ok}
 use Rattle.block.specs.Tag.{tag-SMAP}
 use Rattle.block.specs.Tree.{find_tag}
-use Rattle.block.specs.declared.Found.TheVariants.{At}
 use Rattle.grid.specs.Grid.{within}
 use Rattle.grid.specs.Mask.{mask_over}
 use Rattle.grid.specs.Strip.{pixel_over}
 use Rattle.strip.specs.Picture.{Picture}
 use Rattle.table.specs.Body.{strip_at, pixels_of}
 use Rattle.table.specs.Test.{block_test}
-use Rattle.table.specs.declared.Test.TheVariants.{Passed}
 use Rattle.room.specs.Picture.{plane_in, found_mask, plane_test}
 use Rattle.image.specs.Image.{image_height, state_block}
 use Rattle.image.specs.Pixel.{image_strips, clear_code}
@@ -25,11 +23,11 @@ pub record Readable (s : List ℕ) (m : Source) : Type 0 where
   pub smap_in : m.smap ≤ m.smap_end
   pub smap-last : m.smap_end ≤ length s
   pub payload-last : m.payload_end ≤ length s
-  pub smap-passes : block_test false m.strips m.height s m.smap m.smap_end ≡ Passed
+  pub smap-passes : block_test false m.strips m.height s m.smap m.smap_end ≡ Ok tt
 
 -- plane p passes its test
 abbrev pub PlanePasses : List ℕ → Source → ℕ → Type 0
-PlanePasses s m p = plane_test m.strips m.height s m.payload m.payload_end p ≡ Passed
+PlanePasses s m p = plane_test m.strips m.height s m.payload m.payload_end p ≡ Ok tt
 
 -- strip j
 abbrev pub strip_in : List ℕ → Source → ℕ → Picture
@@ -61,8 +59,8 @@ planes_byte s m j n h planes k y replace = strip_byte (planes * h * n) (λ i. i 
 -- the image of object o in state st
 pub record Stands (s : List ℕ) (o st : ℕ) (m : Source) : Type 0 where
   pub block : ℕ
-  pub block_at : At block m.payload_end ≡ state_block s o st
+  pub block_at : Some (block, m.payload_end) ≡ state_block s o st
   pub payload-at : m.payload ≡ block + 8
-  pub smap_at : At m.smap m.smap_end ≡ find_tag tag-SMAP s m.payload m.payload_end
+  pub smap_at : Some (m.smap, m.smap_end) ≡ find_tag tag-SMAP s m.payload m.payload_end
   pub strips_are : m.strips ≡ image_strips s o
   pub height_is : m.height ≡ image_height s o

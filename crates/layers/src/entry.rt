@@ -10,8 +10,8 @@ ghost use Rattle.layers.specs.Decoded.{decoded, entry_at};
 ghost use Rattle.layers.specs.Source.{Stands};
 
 use crate::Source;
+use block::find_tag;
 use block::tags::SMAP;
-use block::{Found, find_tag};
 use image::state::state_block;
 use scene::Entry;
 
@@ -41,7 +41,7 @@ pub fn covers_strip(table: &[u32], e: Entry, k: usize) -> bool
 {
     let left = e.x as usize / 8;
     let strips = table[8 * e.object as usize + 3] as usize / 8;
-    (left <= k) & (k < left + strips)
+    (left..left + strips).contains(&k)
 }
 
 // Where the image of object o in state st is read from.
@@ -52,26 +52,8 @@ pub fn source_of(room: &[u8], table: &[u32], o: usize, st: usize) -> Source
 {
     let strips = table[8 * o + 3] as usize / 8;
     let height = table[8 * o + 4] as usize;
-    let Found::At(b, z) = state_block(room, table, o, st) else {
-        return Source {
-            payload: 0,
-            payload_end: 0,
-            smap: 0,
-            smap_end: 0,
-            strips,
-            height,
-        };
-    };
-    let Found::At(smap, smap_end) = find_tag(room, b + 8, z, SMAP) else {
-        return Source {
-            payload: 0,
-            payload_end: 0,
-            smap: 0,
-            smap_end: 0,
-            strips,
-            height,
-        };
-    };
+    let (b, z) = state_block(room, table, o, st).unwrap();
+    let (smap, smap_end) = find_tag(room, b + 8, z, SMAP).unwrap();
     Source {
         payload: b + 8,
         payload_end: z,

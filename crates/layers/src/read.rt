@@ -4,7 +4,6 @@ ghost use Rattle.layers.specs.Layer.{none_clear};
 ghost use Rattle.layers.specs.Source.{Readable, PlanePasses, mask_in};
 
 use crate::Source;
-use block::Found;
 use room::picture::plane_in;
 
 // Whether none of the first n pixels of a strip is transparent; `clear` says whether its code is a transparent one.
@@ -12,14 +11,7 @@ pub fn none_clear(values: &[u8], n: usize, index: u8, clear: bool) -> bool
     requires { n ≤ length values.now }
     ensures { result ≡ none_clear index clear values.now n }
 {
-    let mut i: usize = 0;
-    while i < n {
-        if clear & (values[i] == index) {
-            return false;
-        }
-        i += 1;
-    }
-    true
+    !(clear && values[..n].contains(&index))
 }
 
 // The rows of strip j of plane p; zeros where the plane is missing.
@@ -30,11 +22,10 @@ pub fn plane_rows(room: &[u8], m: Source, p: usize, j: usize, out: &mut [u8])
 {
     let height = m.height;
     match plane_in(room, m.payload, m.payload_end, p) {
-        Found::At(b, z) => {
-            table::read_rows(room, m.strips, height, b, z, j, out);
+        Some((b, z)) => {
+            // The strip passed its test, so the read is not refused.
+            let _ = table::read_rows(room, m.strips, height, b, z, j, out);
         }
-        Found::Missing => {
-            number::buffer::fill(out, 0, height, 0);
-        }
+        None => number::buffer::fill(out, 0, height, 0),
     }
 }

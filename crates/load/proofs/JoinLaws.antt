@@ -1,5 +1,5 @@
 -- Laws of rows joined to a plane: what an operation of a body that passes its test leaves to do, and a plane that is cleared first.
-use Rattle.std.proofs.Common.{◌≡◌, refl, sym, ap, ◌∙◌, true, false, List, ◌++◌, ℕ, ◌+◌, ◌-◌, ◌≤◌, ◌<◌, arith, eq-eqb, ne_eqb, length, get_or, drop, get_or-drop, drop-drop, drop_at}
+use Rattle.std.proofs.Common.{◌≡◌, refl, sym, ap, ◌∙◌, true, false, List, ◌++◌, ℕ, ◌+◌, ◌-◌, ◌≤◌, ◌<◌, arith, eq-eqb, ne_eqb, length, get_or, drop, get_or-drop, drop-drop, drop_at, Ok}
 use lib.Bits.{bit_or, or_zero_l}
 use lib.ListN.{get_or-append, get_or-replicate}
 use Rattle.grid.specs.Grid.{upd, boxed}
@@ -10,11 +10,10 @@ use Rattle.plane.specs.Mask.{rows_of, literals}
 use Rattle.table.specs.Table.{offset_at}
 use Rattle.table.specs.Body.{body_of, rows_at, row_values, mask_at}
 use Rattle.table.specs.Test.{rows_test, strip_test}
-use Rattle.table.specs.declared.Test.TheVariants.{Passed}
 use Rattle.table.proofs.BlockLaws.{not-passed}
 use Rattle.load.proofs.BoxLaws.{box_same}
 
-pub passed-values : (x : Strip) → rows_test x ≡ Passed → x ≡ values (row_values x)
+pub passed-values : (x : Strip) → rows_test x ≡ Ok tt → x ≡ values (row_values x)
 passed-values (refused n) passed = absurd (not-passed n passed)
 passed-values (values rows) passed = refl
 
@@ -90,7 +89,7 @@ module _ (n h : ℕ) (s : List ℕ) (b z k : ℕ) where
     unfolding rows_at
     body_rows = rw (ne_eqb _ _ some, is_body) refl
 
-    pub body_passes : strip_test true n h s b z k ≡ Passed → rows_test (rows_of body h (literals 0)) ≡ Passed
+    pub body_passes : strip_test true n h s b z k ≡ Ok tt → rows_test (rows_of body h (literals 0)) ≡ Ok tt
     unfolding strip_test
     body_passes passed = ap rows_test body_rows ∙ passed
 

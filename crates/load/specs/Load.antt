@@ -1,12 +1,10 @@
 -- What an accepted load leaves (document 01, "Sizes", "Blocks", "Sessions"): the background's pixels, planes 1 to N, and an empty session.
-use Rattle.std.specs.Prelude.{ℕ, ◌+◌, ◌-◌, ◌*◌, ◌/◌, ◌%◌, List, length}
+use Rattle.std.specs.Prelude.{ℕ, ◌+◌, ◌-◌, ◌*◌, ◌/◌, ◌%◌, List, length, Result, Ok, Err}
 use Rattle.grid.specs.Grid.{upd, boxed}
 use Rattle.table.specs.Body.{pixel_at}
 use Rattle.room.specs.Picture.{plane_in, found_mask}
 use Rattle.room.specs.Test.{strips, room_test, with_surfaces}
 use Rattle.room.specs.declared.Room.{Room}
-use Rattle.room.specs.declared.Tested.{Tested}
-use Rattle.room.specs.declared.Tested.TheVariants.{Right, Refused}
 use Rattle.stored.specs.Layout.{session_size}
 use Rattle.stored.specs.Bytes.{emptied}
 
@@ -31,18 +29,18 @@ unfoldable pub loaded_masks : List ℕ → Room → List ℕ → List ℕ
 loaded_masks s r old = upd (boxed (strips r) 0 0 (strips r) (r.planes * r.height) (λ k q o. mask s r (q / r.height + 1) k (q % r.height))) old
 
 -- the test that the load makes
-abbrev pub load_test : (s session pixels masks : List ℕ) → Tested
+abbrev pub load_test : (s session pixels masks : List ℕ) → Result Room ℕ
 load_test s session pixels masks = room_test (with_surfaces session_size (length session) (length pixels) (length masks)) s
 
 -- the lent bytes afterwards: a refusal changes nothing
-abbrev pub pixels_after : List ℕ → Tested → List ℕ → List ℕ
-pixels_after s (Right r) old = loaded_pixels s r old
-pixels_after s (Refused n) old = old
+abbrev pub pixels_after : List ℕ → Result Room ℕ → List ℕ → List ℕ
+pixels_after s (Ok r) old = loaded_pixels s r old
+pixels_after s (Err n) old = old
 
-abbrev pub masks_after : List ℕ → Tested → List ℕ → List ℕ
-masks_after s (Right r) old = loaded_masks s r old
-masks_after s (Refused n) old = old
+abbrev pub masks_after : List ℕ → Result Room ℕ → List ℕ → List ℕ
+masks_after s (Ok r) old = loaded_masks s r old
+masks_after s (Err n) old = old
 
-abbrev pub session_after : Tested → List ℕ → List ℕ
-session_after (Right r) old = emptied old
-session_after (Refused n) old = old
+abbrev pub session_after : Result Room ℕ → List ℕ → List ℕ
+session_after (Ok r) old = emptied old
+session_after (Err n) old = old

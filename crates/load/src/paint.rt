@@ -1,14 +1,13 @@
 // Painting of a background and of planes from a room's bytes, strip by strip (document 01, "Sizes", "Strips of pixels", "Strips of
 // masks"). A block stands in [b, z) of the room, its header included, and has n strips of h rows. Its strips were tested before, so
 // no call here can be refused: what reading a strip answers is not asked again.
-ghost use Rattle.std.specs.Prelude.{◌≡◌, true, false, ℕ, ◌-◌, ◌+◌, ◌*◌, ◌≤◌, ◌<◌, length};
+ghost use Rattle.std.specs.Prelude.{◌≡◌, true, false, ℕ, ◌-◌, ◌+◌, ◌*◌, ◌≤◌, ◌<◌, length, Ok};
 ghost use Rattle.grid.specs.Grid.{upd, boxed, Inside};
 ghost use Rattle.grid.specs.Mask.{mask_over, rows_over, Plane};
 ghost use Rattle.plane.specs.Mask.{rows_of, literals};
 ghost use Rattle.table.specs.Table.{table_right};
 ghost use Rattle.table.specs.Body.{row_values, pixel_at, mask_at};
 ghost use Rattle.table.specs.Test.{rows_test, strip_test, block_test};
-ghost use Rattle.table.specs.declared.Test.TheVariants.{Passed};
 ghost use Rattle.load.specs.Pair.{Shows};
 
 use grid::{join_run, put_rows};
@@ -18,13 +17,13 @@ use plane::{Rows, rows_at};
 pub fn paint_strip(room: &[u8], n: usize, h: usize, b: usize, z: usize, k: usize, pixels: &mut [u8])
     requires strip_in_block { (k < n) × (n ≤ 128) × (h ≤ 200) × (b ≤ z) × (z ≤ length room.now) }
     requires table_right { table_right false n room.now b z ≡ true }
-    requires strip_passes { strip_test false n h room.now b z k ≡ Passed }
+    requires strip_passes { strip_test false n h room.now b z k ≡ Ok tt }
     requires pixels_fit { 8 * n * h ≤ length pixels.old }
     ensures { pixels.new
         ≡ upd (boxed (8 * n) (8 * k) 0 8 h (λ c r o. pixel_at n h room.now b z (8 * k + c) r)) pixels.old }
 {
     let mut scratch = [0u8; 1600];
-    table::read_strip(room, n, h, b, z, k, &mut scratch);
+    let _ = table::read_strip(room, n, h, b, z, k, &mut scratch);
     grid::blit_strip(pixels, 8 * n, h, k, 0, &scratch, h, 0, false);
 }
 
@@ -35,11 +34,9 @@ fn blit_two(pixels: &mut [u8], w: usize, h: usize, k: usize, left: &[u8], right:
     ensures { (f : ℕ → ℕ → ℕ) → Shows 0 h left.now f → Shows 8 h right.now f
         → pixels.new ≡ upd (boxed w (8 * k) 0 16 h (λ c r o. f c r)) pixels.old }
 {
-    let mut r: usize = 0;
-    while r < h {
+    for r in 0..h {
         grid::blit_strip(pixels, w, h, k, r, &left[8 * r..], 1, 0, false);
         grid::blit_strip(pixels, w, h, k + 1, r, &right[8 * r..], 1, 0, false);
-        r += 1;
     }
 }
 
@@ -57,33 +54,31 @@ fn paint_two(
 )
     requires strips_in_block { (k + 1 < n) × (n ≤ 128) × (h ≤ 200) × (b ≤ z) × (z ≤ length room.now) }
     requires table_right { table_right false n room.now b z ≡ true }
-    requires strips_pass { (strip_test false n h room.now b z k ≡ Passed) × (strip_test false n h room.now b z (k + 1) ≡ Passed) }
+    requires strips_pass { (strip_test false n h room.now b z k ≡ Ok tt) × (strip_test false n h room.now b z (k + 1) ≡ Ok tt) }
     requires buffers_fit { (8 * h ≤ length left.old) × (8 * h ≤ length right.old) × (8 * n * h ≤ length pixels.old) }
     ensures { pixels.new
         ≡ upd (boxed (8 * n) (8 * k) 0 16 h (λ c r o. pixel_at n h room.now b z (8 * k + c) r)) pixels.old }
 {
-    table::read_strip(room, n, h, b, z, k, left);
-    table::read_strip(room, n, h, b, z, k + 1, right);
+    let _ = table::read_strip(room, n, h, b, z, k, left);
+    let _ = table::read_strip(room, n, h, b, z, k + 1, right);
     blit_two(pixels, 8 * n, h, k, left, right);
 }
 
 // Every strip of an SMAP block, two by two.
 pub fn paint_background(room: &[u8], n: usize, h: usize, b: usize, z: usize, pixels: &mut [u8])
     requires block_in_room { (n ≤ 128) × (h ≤ 200) × (b ≤ z) × (z ≤ length room.now) }
-    requires block_passes { block_test false n h room.now b z ≡ Passed }
+    requires block_passes { block_test false n h room.now b z ≡ Ok tt }
     requires pixels_fit { 8 * n * h ≤ length pixels.old }
     ensures { pixels.new
         ≡ upd (boxed (8 * n) 0 0 (8 * n) h (λ x y o. pixel_at n h room.now b z x y)) pixels.old }
 {
     let mut left = [0u8; 1600];
     let mut right = [0u8; 1600];
-    let mut k: usize = 0;
-    while k + 2 <= n {
-        paint_two(room, n, h, b, z, k, &mut left, &mut right, pixels);
-        k += 2;
+    for pair in 0..n / 2 {
+        paint_two(room, n, h, b, z, 2 * pair, &mut left, &mut right, pixels);
     }
-    if k < n {
-        paint_strip(room, n, h, b, z, k, pixels);
+    if n % 2 == 1 {
+        paint_strip(room, n, h, b, z, n - 1, pixels);
     }
 }
 
@@ -97,28 +92,27 @@ fn join_body(
     k: usize,
     masks: &mut [u8],
 )
-    requires body_passes { rows_test (rows_of body.now h (literals 0)) ≡ Passed }
+    requires body_passes { rows_test (rows_of body.now h (literals 0)) ≡ Ok tt }
     requires in_plane { Plane (length masks.old) n h planes plane k 0 h }
     ensures { masks.new
         ≡ upd (boxed n k ((plane - 1) * h) 1 h (rows_over (row_values (rows_of body.now h (literals 0))) false)) masks.old }
 {
+    // What an operation asks says how far the body and the rows go on, so no `for` counts them.
     let mut at: usize = 0;
     let mut i: usize = 0;
     while i < h {
         match rows_at(body, at, h - i) {
-            Rows::Literals(m) => {
+            Ok(Rows::Literals(m)) => {
                 put_rows(masks, n, h, planes, plane, k, i, &body[at + 1..], m, false);
                 i += m;
                 at = at + 1 + m;
             }
-            Rows::Copies(m) => {
+            Ok(Rows::Copies(m)) => {
                 join_run(masks, n, h, planes, plane, k, i, body[at + 1], m);
                 i += m;
                 at += 2;
             }
-            Rows::Refuse(_) => {
-                return;
-            }
+            Err(_) => return,
         }
     }
 }
@@ -138,7 +132,7 @@ fn join_strip(
 )
     requires strip_in_block { (k < n) × (n ≤ 128) × (h ≤ 200) × (b ≤ z) × (z ≤ length room.now) }
     requires table_right { table_right true n room.now b z ≡ true }
-    requires strip_passes { strip_test true n h room.now b z k ≡ Passed }
+    requires strip_passes { strip_test true n h room.now b z k ≡ Ok tt }
     requires masks_fit { (planes ≤ 4) × (1 ≤ plane) × (plane ≤ planes) × (n * (planes * h) ≤ length masks.old) }
     ensures { masks.new
         ≡ upd (boxed n k ((plane - 1) * h) 1 h (λ c r o. mask_over false (mask_at n h room.now b z k r) o)) masks.old }
@@ -168,16 +162,14 @@ pub fn paint_plane(
     masks: &mut [u8],
 )
     requires block_in_room { (n ≤ 128) × (h ≤ 200) × (b ≤ z) × (z ≤ length room.now) }
-    requires block_passes { block_test true n h room.now b z ≡ Passed }
+    requires block_passes { block_test true n h room.now b z ≡ Ok tt }
     requires masks_fit { (planes ≤ 4) × (1 ≤ plane) × (plane ≤ planes) × (n * (planes * h) ≤ length masks.old) }
     ensures { masks.new
         ≡ upd (boxed n 0 ((plane - 1) * h) n h (λ s y o. mask_at n h room.now b z s y)) masks.old }
 {
     clear_plane(n, h, planes, plane, masks);
-    let mut s: usize = 0;
-    while s < n {
+    for s in 0..n {
         join_strip(room, n, h, b, z, planes, plane, s, masks);
-        s += 1;
     }
 }
 

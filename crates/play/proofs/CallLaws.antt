@@ -1,12 +1,11 @@
 -- A call, as the code makes it, is crate scene's `called` at the decoded room.
-use Rattle.std.proofs.Common.{◌≡◌, refl, sym, ap, ◌∙◌, Bool, true, false, cond, not, List, ℕ, ◌≤◌, ◌<◌, arith, eqb-true, eq-eqb, ne_eqb, lt-ltb, eqb, ltb, length, get_or}
+use Rattle.std.proofs.Common.{◌≡◌, refl, sym, ap, ◌∙◌, Bool, true, false, cond, not, List, ℕ, ◌≤◌, ◌<◌, arith, eqb-true, eq-eqb, ne_eqb, lt-ltb, eqb, ltb, length, get_or, Ok}
 use mathlib.Core.Logic.{by_cases}
 use native.Mathlib.Decide.{ℕ_discrete}
 use Rattle.grid.specs.Grid.{upd}
 use Rattle.grid.proofs.Upd.{get_or-upd}
 use Rattle.room.specs.Test.{strips}
 use Rattle.room.specs.declared.Room as room
-use Rattle.room.specs.declared.Tested.TheVariants.{Right}
 use Rattle.scene.specs.Painting.{Room, Layout, Surfaces, pixel_layout, mask_layout, rebuilt_bytes, rebuilt}
 use Rattle.scene.specs.Session.{State, Outcome, called}
 use Rattle.scene.specs.declared.Call.{Call}
@@ -102,11 +101,11 @@ module _ (s : List ℕ) (r : room.Room) (t v l px mk : List ℕ) (c : Call) (lon
   told : planned D l c ≡ plan_of after
   told = planned_known D t v (size_of r) l c K ∙ sym q
 
-  pub number_is : after.refusal ≡ number_by s (lent l px mk) c (Right r)
+  pub number_is : after.refusal ≡ number_by s (lent l px mk) c (Ok r)
   number_is = sym ((called-kept D l long state.surfaces c).0 ∙ ap number_of told ∙ plan-number after)
 
   -- a refusal changes no byte
-  pub refused_stays : (after.refusal ≡ 0 → ⊥) → lent l px mk ≡ after_by s (lent l px mk) c (Right r)
+  pub refused_stays : (after.refusal ≡ 0 → ⊥) → lent l px mk ≡ after_by s (lent l px mk) c (Ok r)
   refused_stays f =
       let e = called-refused D state c (λ z. f (number_is ∙ z)) in
       let p = kept-refused l c (called D state c) (λ z. f (number_is ∙ z)) in
@@ -144,7 +143,7 @@ module _ (s : List ℕ) (r : room.Room) (t v l px mk : List ℕ) (c : Call) (lon
       pub accepted-leaves : (session pixels masks : List ℕ) → session ≡ put_call l c (entries after)
           → pixels ≡ rebuilt_bytes (pixel_layout D) (entries_of flat n) (λ k. not (eqb (get_or marked k 0) 0)) px
           → masks ≡ rebuilt_bytes (mask_layout D) (entries_of flat n) (λ k. not (eqb (get_or marked k 0) 0)) mk
-          → lent session pixels masks ≡ after_by s (lent l px mk) c (Right r)
+          → lent session pixels masks ≡ after_by s (lent l px mk) c (Ok r)
       accepted-leaves session pixels masks e f g =
           let sessions = e ∙ sym (kept-accepted l c (called D state c) zero_is ∙ ap (put_call l c) shown_is) in
           let painted = f ∙ rebuilt_as (pixel_layout D) px (λ i h. omega (arith, pixel-strips D i h)) ∙ sym (ap (λ (x : Surfaces). x.pixels) surfaces_are) in

@@ -1,13 +1,12 @@
 -- Demand 3 of the calls themselves: their contracts, on bytes that hold a right session with surfaces painted accordingly, are crate scene's
 -- calls at the decoded room, so that every list of draws, hides and take-backs, refused ones included, agrees with document 01's step list, byte
 -- for byte. What an accepted load leaves are such bytes.
-use Rattle.std.proofs.Common.{◌≡◌, refl, sym, ap, subst, ◌∙◌, Bool, true, false, cond, List, [], ◌∷◌, ℕ, ◌+◌, ◌≤◌, arith, eqb, length, drop, replicate, length-set, length-append, length-drop}
+use Rattle.std.proofs.Common.{◌≡◌, refl, sym, ap, subst, ◌∙◌, Bool, true, false, cond, List, [], ◌∷◌, ℕ, ◌+◌, ◌≤◌, arith, eqb, length, drop, replicate, length-set, length-append, length-drop, Ok}
 use lib.ListN.{length-replicate}
 use Rattle.number.specs.Buffer.{over}
 use Rattle.room.specs.Head.{Sound}
 use Rattle.room.specs.Test.{room_test, with_surfaces}
 use Rattle.room.specs.declared.Room as room
-use Rattle.room.specs.declared.Tested.TheVariants.{Right}
 use Rattle.room.proofs.TestLaws.{test-passes, surfaces-long}
 use Rattle.load.proofs.LoadLaws.{load-test}
 use Rattle.scene.specs.Painting.{Room, Surfaces, pixel_layout, mask_layout, painted}
@@ -34,7 +33,7 @@ held s r x = state_of (decoded s r) x.session x.pixels x.masks
 
 -- bytes to start from: the room passes its test with them, their session is right for it, and their surfaces are lent ones painted with its list
 pub record Begins (s : List ℕ) (r : room.Room) (lent : Surfaces) (x : Lent) : Type 0 where
-  pub test : call_test s x ≡ Right r
+  pub test : call_test s x ≡ Ok r
   pub start : scene.Starts (decoded s r) lent (held s r x)
 
 -- ---- lengths stay
@@ -57,10 +56,10 @@ over-length : (xs d : List ℕ) → length xs ≤ length d → length (over xs d
 unfolding over
 over-length xs d le = length-append xs (drop (length xs) d) ∙ ap (λ (n : ℕ). length xs + n) (length-drop (length xs) d) ∙ omega arith
 
-module _ (s : List ℕ) (r : room.Room) (b : Lent) (accepted : call_test s b ≡ Right r) where
+module _ (s : List ℕ) (r : room.Room) (b : Lent) (accepted : call_test s b ≡ Ok r) where
   -- bytes as long as those lent pass the test as they did
   test_again : (x : Lent) → length x.session ≡ length b.session → length x.pixels ≡ length b.pixels → length x.masks ≡ length b.masks
-      → call_test s x ≡ Right r
+      → call_test s x ≡ Ok r
   test_again x e f g = (λ i. room_test (with_surfaces session_size (e i) (f i) (g i)) s) ∙ accepted
 
   long : session_size ≤ length b.session
@@ -87,7 +86,7 @@ module _ (s : List ℕ) (r : room.Room) (lent : Surfaces) (x : Lent) (begins : B
   surfaces_of (c ∷ cs) = (_, (scene.demand3 D lent (held s r x) begins.start cs c).surfaces)
 
   pub record Reached (cs : List Call) : Type 0 where
-    pub test : call_test s (played s x cs) ≡ Right r
+    pub test : call_test s (played s x cs) ≡ Ok r
     pub size : length (played s x cs).session ≡ length x.session
     pub state : held s r (played s x cs) ≡ state_from D (held s r x) cs
 
@@ -99,14 +98,14 @@ module _ (s : List ℕ) (r : room.Room) (lent : Surfaces) (x : Lent) (begins : B
         ap (λ (t : Surfaces). length t.masks) q ∙ length-rebuilt (mask_layout D) p.0 (λ k. true) lent.masks,
       )
 
-  same_lengths : (cs : List Call) (y : Lent) → length y.session ≡ length x.session → held s r y ≡ state cs → call_test s y ≡ Right r
+  same_lengths : (cs : List Call) (y : Lent) → length y.session ≡ length x.session → held s r y ≡ state cs → call_test s y ≡ Ok r
   unfolding after_all state_from
   same_lengths cs y e h =
       let there = as_long cs y h in
       let here = as_long [] x refl in
       test_again s r x begins.test y e (there.0 ∙ sym here.0) (there.1 ∙ sym here.1)
 
-  call_state : (y : Lent) (c : Call) → call_test s y ≡ Right r → session_size ≤ length y.session → held s r (after_call s y c) ≡ (called D (held s r y) c).after
+  call_state : (y : Lent) (c : Call) → call_test s y ≡ Ok r → session_size ≤ length y.session → held s r (after_call s y c) ≡ (called D (held s r y) c).after
   call_state y c e le =
       rw e (λ i. record { session = session-kept D y.session le (held s r y).surfaces c i; surfaces = (called D (held s r y) c).after.surfaces })
 
@@ -136,12 +135,12 @@ module _ (s : List ℕ) (r : room.Room) (lent : Surfaces) (x : Lent) (begins : B
 
 -- ---- a load leaves such bytes
 
-module _ (s : List ℕ) (r : room.Room) (b : Lent) (accepted : test_of s b ≡ Right r) where
+module _ (s : List ℕ) (r : room.Room) (b : Lent) (accepted : test_of s b ≡ Ok r) where
   abbrev lent : Surfaces
   lent = record { pixels = b.pixels; masks = b.masks }
 
   -- a call's test passes where the load's does
-  passed : call_test s b ≡ Right r
+  passed : call_test s b ≡ Ok r
   passed = sym (load-test s b.session b.pixels b.masks) ∙ accepted
 
   emptied-length : length (emptied b.session) ≡ length b.session
@@ -151,7 +150,7 @@ module _ (s : List ℕ) (r : room.Room) (b : Lent) (accepted : test_of s b ≡ R
   load_state : held s r (after_load s b) ≡ loaded (decoded s r) lent
   load_state = rw accepted (loaded_is s r (sound s r b passed) b.session b.pixels b.masks)
 
-  test-after : call_test s (after_load s b) ≡ Right r
+  test-after : call_test s (after_load s b) ≡ Ok r
   unfolding loaded
   test-after =
       test_again s r b passed (after_load s b) (rw accepted emptied-length)

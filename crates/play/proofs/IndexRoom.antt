@@ -6,7 +6,7 @@
 --
 -- The background has a 7 and a 255, which are painted as they are. TRNS stands behind all other blocks; its second byte and the second, empty TRNS count
 -- for nothing. Each lent buffer has a byte more than the calls need, 0xEE, which stays.
-use Rattle.std.proofs.Common.{◌≡◌, refl, List, [], ◌∷◌, ◌++◌, ℕ, ◌-◌, length, replicate}
+use Rattle.std.proofs.Common.{◌≡◌, refl, List, [], ◌∷◌, ◌++◌, ℕ, ◌-◌, length, replicate, Ok, Err}
 use Rattle.number.specs.Buffer.{over}
 use Rattle.bits.specs.Bits.{low_bits, bits_of}
 use Rattle.grid.specs.Grid.{upd, within, boxed}
@@ -22,7 +22,6 @@ use Rattle.room.specs.Head.{headed_in, background_in, needed_in, objects_right, 
 use Rattle.room.specs.Picture.{plane_test, smap_and_planes_test}
 use Rattle.room.specs.Test.{pictures_test, short, after_head, room_test}
 use Rattle.room.specs.declared.Room.{Room}
-use Rattle.room.specs.declared.Tested.TheVariants.{Right, Refused}
 use Rattle.objects.specs.Object.{object_block}
 use Rattle.objects.specs.Record.{record_bytes, record_test, record_after}
 use Rattle.load.specs.Load.{background, mask, loaded_pixels, loaded_masks}
@@ -184,14 +183,14 @@ draw st = Make (Draw 1 st Last)
 
 -- the call c on the bytes `before`, in the room that has passed its test with this index, is accepted and leaves the bytes `after`
 abbrev Gives : List ℕ → (index : ℕ) → (before : Lent) → Call → (after : Lent) → Type 0
-Gives s index before c after = (number_by s before c (Right (sizes index)) ≡ 0) × (after_by s before c (Right (sizes index)) ≡ after)
+Gives s index before c after = (number_by s before c (Ok (sizes index)) ≡ 0) × (after_by s before c (Ok (sizes index)) ≡ after)
 
 -- both loads are accepted, with 7 and with 255, and leave the same bytes; the records differ in byte 8; an empty first TRNS is 2
 pub record Read : Type 0 where
-  pub accepted : (test_of room7 given ≡ Right (sizes 7)) × (test_of room255 given ≡ Right (sizes 255))
+  pub accepted : (test_of room7 given ≡ Ok (sizes 7)) × (test_of room255 given ≡ Ok (sizes 255))
   pub loads : (after_load room7 given ≡ loaded) × (after_load room255 given ≡ loaded)
   pub records : (recorded room7 ≡ record_with 0x07) × (recorded room255 ≡ record_with 0xFF)
-  pub refused : test_of empty_first given ≡ Refused 2
+  pub refused : test_of empty_first given ≡ Err 2
 
 -- with 7: states 1, 2 and 3 one after the other, and the last taken back. With 255: states 1 and 3
 pub record Played : Type 0 where

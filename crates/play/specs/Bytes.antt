@@ -1,6 +1,6 @@
 -- A list of calls on lent bytes, from any that hold a session and from a load on (demand 3). Lists of calls stand newest first.
-use Rattle.std.specs.Prelude.{ℕ, List}
-use Rattle.room.specs.declared.Tested.{Tested}
+use Rattle.std.specs.Prelude.{ℕ, List, Result}
+use Rattle.room.specs.declared.Room.{Room}
 use Rattle.room.specs.Test.{surfaces_test}
 use Rattle.load.specs.Load.{load_test, session_after, pixels_after, masks_after}
 use Rattle.scene.specs.declared.Call.{Call}
@@ -18,10 +18,10 @@ abbrev pub lent : (session pixels masks : List ℕ) → Lent
 lent session pixels masks = record { session = session; pixels = pixels; masks = masks }
 
 -- the room's test with them, as the load makes it, and as a draw, a hide or a take-back does
-abbrev pub test_of : List ℕ → Lent → Tested
+abbrev pub test_of : List ℕ → Lent → Result Room ℕ
 test_of s b = load_test s b.session b.pixels b.masks
 
-abbrev pub call_test : List ℕ → Lent → Tested
+abbrev pub call_test : List ℕ → Lent → Result Room ℕ
 call_test s b = surfaces_test session_size s b.session b.pixels b.masks
 
 -- what a load leaves
@@ -34,10 +34,10 @@ after_load s b =
     }
 
 -- a call's number and what it leaves: by the room's test, and of any bytes
-abbrev pub number_by : List ℕ → Lent → Call → Tested → ℕ
+abbrev pub number_by : List ℕ → Lent → Call → Result Room ℕ → ℕ
 number_by s b c t = call_number s b.session b.pixels b.masks c t
 
-abbrev pub after_by : List ℕ → Lent → Call → Tested → Lent
+abbrev pub after_by : List ℕ → Lent → Call → Result Room ℕ → Lent
 after_by s b c t =
     record {
       session = call_session s b.session b.pixels b.masks c t;

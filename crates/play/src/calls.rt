@@ -5,7 +5,6 @@ ghost use Rattle.play.specs.Bytes.{lent, number_of, after_call};
 use crate::tested::call_tested;
 use image::gather::gather;
 use replay::OBJECTS_LENGTH;
-use room::Tested;
 use room::test::{surfaces_lent, test_room};
 use scene::Call;
 use stored::SESSION_SIZE;
@@ -19,11 +18,11 @@ pub fn call(room: &[u8], session: &mut [u8], pixels: &mut [u8], masks: &mut [u8]
 {
     let lent = surfaces_lent(SESSION_SIZE, session.len(), pixels.len(), masks.len());
     match test_room(room, lent) {
-        Tested::Right(r) => {
+        Ok(r) => {
             let mut table = [0u32; OBJECTS_LENGTH];
             gather(room, &mut table);
             call_tested(room, r, &table, session, pixels, masks, call)
         }
-        Tested::Refused(number) => number as u32,
+        Err(refusal) => u32::from(refusal.number()),
     }
 }

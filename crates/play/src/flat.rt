@@ -10,15 +10,12 @@ pub fn flatten(s: Shown, out: &mut [u32])
     requires { (s.n ≤ most_shown) × (256 ≤ length out.old) }
     ensures { entries_of out.new s.n ≡ entries s }
 {
-    let n = s.n;
-    let mut i: usize = 0;
-    while i < n {
+    for i in 0..s.n {
         let e = s.list[i];
         let at = 4 * i;
         out[at] = e.object;
         out[at + 1] = e.state;
         out[at + 2] = e.x;
         out[at + 3] = e.y;
-        i += 1;
     }
 }

@@ -1,7 +1,6 @@
 // A draw, a hide or a take-back on a room that passes its test.
-ghost use Rattle.std.specs.Prelude.{◌≡◌, ◌*◌, ◌≤◌, length};
+ghost use Rattle.std.specs.Prelude.{◌≡◌, ◌*◌, ◌≤◌, length, Ok};
 ghost use Rattle.room.specs.Test.{strips};
-ghost use Rattle.room.specs.declared.Tested.TheVariants.{Right};
 ghost use Rattle.image.specs.Image.{object_count};
 ghost use Rattle.stored.specs.Layout.{session_size};
 ghost use Rattle.layers.specs.Ready.{Ready};
@@ -30,18 +29,17 @@ pub fn call_tested(
     requires ready_with_session { Ready room.now r table.now × (r.objects ≡ object_count room.now) × (session_size ≤ length session.old) }
     requires surfaces_fit { (r.width * r.height ≤ length pixels.old) × (strips r * (r.planes * r.height) ≤ length masks.old) }
     ensures number { result
-        ≡ number_by room.now (lent session.old pixels.old masks.old) call (Right r) }
+        ≡ number_by room.now (lent session.old pixels.old masks.old) call (Ok r) }
     ensures lent_after { lent session.new pixels.new masks.new
-        ≡ after_by room.now (lent session.old pixels.old masks.old) call (Right r) }
+        ≡ after_by room.now (lent session.old pixels.old masks.old) call (Ok r) }
 {
     let mut verdicts = [0u8; VERDICTS_LENGTH];
     judge(room, r, table, &session[..], call, &mut verdicts);
     let size = size_of(r);
     let mut strips = [0u8; 128];
     let after = plan(&session[..], table, &verdicts, size, call, &mut strips);
-    let refusal = after.refusal;
-    if refusal != 0 {
-        return refusal as u32;
+    if after.refusal != 0 {
+        return u32::from(after.refusal);
     }
     let mut shown = [0u32; 256];
     flatten(after, &mut shown);

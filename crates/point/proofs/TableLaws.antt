@@ -1,7 +1,6 @@
 -- The code's tables tell the room's objects and the shown states: the hit test by the tables is the definition's, and so is the object.
-use Rattle.std.proofs.Common.{ℕ, zero, suc, ◌+◌, ◌*◌, ◌-◌, ◌≤◌, ◌<◌, ◌≡◌, refl, sym, ap, ◌∙◌, Bool, true, false, cond, not, ◌&&◌, List, [], arith, eq-eqb, ne_eqb, leb-true, eqb, leb, get_or}
+use Rattle.std.proofs.Common.{ℕ, zero, suc, ◌+◌, ◌*◌, ◌-◌, ◌≤◌, ◌<◌, ◌≡◌, refl, sym, ap, ◌∙◌, Bool, true, false, cond, ◌&&◌, List, [], arith, eq-eqb, leb-true, eqb, leb, get_or}
 use mathlib.Core.Bool.{false≢true}
-use borrow.Author.Tests.{not-true, not-false}
 use Rattle.objects.specs.Object.{object_block}
 use Rattle.image.specs.Gathered.{Filled}
 use Rattle.image.specs.Image.{object_count}
@@ -43,21 +42,14 @@ module _ (t places : List ℕ) (size : Size) (o : ℕ) (one : 1 ≤ o) (le : o �
   unfolding holds
   holds_told x y at w d a b e f = λ i. spans (a i) ((e ∙ sym (row 3)) i) x && spans (b i) ((f ∙ sym (row 4)) i) y
 
--- ---- the hit test, test by test
+-- ---- the hit test, from the box and the flag byte, and from the chain of containers
 
-module _ (t states places : List ℕ) (size : Size) (flags : List ℕ) (x y o : ℕ) (b : Bool) (held : b ≡ holds_in t places size x y o) where
-  pub hit_beside : not b ≡ true → false ≡ hit_in t states places size flags x y o
-  unfolding hit_in
-  hit_beside f = rw (← held, not-true b f)
-
-  module _ (in-box : not b ≡ false) where
-    pub hit-flagged : (get_or flags (o - 1) 0 ≡ 0 → ⊥) → false ≡ hit_in t states places size flags x y o
-    unfolding hit_in
-    hit-flagged f = rw (← held, not-false b in-box, ne_eqb (get_or flags (o - 1) 0) 0 f)
-
-    pub hit-chain : get_or flags (o - 1) 0 ≡ 0 → is_open (boxes_of t size.count) (state_in states) size.count o ≡ hit_in t states places size flags x y o
-    unfolding hit_in
-    hit-chain e = rw (← held, not-false b in-box, eq-eqb (get_or flags (o - 1) 0) 0 e)
+pub hit_told : (t states places : List ℕ) (size : Size) (flags : List ℕ) (x y o : ℕ) (first chain : Bool)
+    → first ≡ (holds_in t places size x y o && eqb (get_or flags (o - 1) 0) 0)
+    → chain ≡ is_open (boxes_of t size.count) (state_in states) size.count o
+    → (first && chain) ≡ hit_in t states places size flags x y o
+unfolding hit_in
+hit_told t states places size flags x y o first chain e f = λ i. e i && f i
 
 -- ---- numbers below a count that pass alike
 

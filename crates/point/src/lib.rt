@@ -4,11 +4,3 @@
 
 pub mod call;
 pub mod hit;
-
-// The answer: an object's number, no object, or the number of the refusal.
-#[derive(Clone, Copy)]
-pub enum Pointed {
-    Object(u32),
-    Nothing,
-    Refused(u8),
-}

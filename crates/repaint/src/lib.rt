@@ -16,26 +16,33 @@ use crate::entries::entries_strip;
 use crate::picture::room_strip;
 use room::Room;
 
+// What is painted: a room's bytes with its sizes and the table of its objects, and the first n entries of a shown list, each of which
+// could be drawn.
+#[derive(Clone, Copy, Debug, PartialEq, Eq)]
+pub struct Painting<'a> {
+    pub bytes: &'a [u8],
+    pub room: Room,
+    pub table: &'a [u32],
+    pub shown: &'a [u32],
+    pub n: usize,
+    ghost ready: { Ready bytes.now room table.now },
+    ghost listed: { Listed bytes.now room shown.now n },
+}
+
 // Rebuilds strip k: the room's own, then the entries over it.
-fn rebuild_strip(
-    room: &[u8],
-    r: Room,
-    table: &[u32],
-    shown: &[u32],
-    n: usize,
-    k: usize,
-    pixels: &mut [u8],
-    masks: &mut [u8],
-)
-    requires entries_ready { Ready room.now r table.now × Listed room.now r shown.now n × (k < strips r) }
-    requires surfaces_fit { (r.width * r.height ≤ length pixels.old) × (strips r * (r.planes * r.height) ≤ length masks.old) }
+fn rebuild_strip(painting: Painting<'_>, k: usize, pixels: &mut [u8], masks: &mut [u8])
+    requires strip_in_room { k < strips painting.room }
+    requires surfaces_fit { (painting.room.width * painting.room.height ≤ length pixels.old)
+        × (strips painting.room * (painting.room.planes * painting.room.height) ≤ length masks.old) }
     ensures pixels_after { pixels.new
-        ≡ rebuilt_bytes (pixel_layout (decoded room.now r)) (entries_of shown.now n) (λ t. eqb t k) pixels.old }
+        ≡ rebuilt_bytes (pixel_layout (decoded painting.entry.bytes.now painting.entry.room))
+        (entries_of painting.entry.shown.now painting.entry.n) (λ t. eqb t k) pixels.old }
     ensures masks_after { masks.new
-        ≡ rebuilt_bytes (mask_layout (decoded room.now r)) (entries_of shown.now n) (λ t. eqb t k) masks.old }
+        ≡ rebuilt_bytes (mask_layout (decoded painting.entry.bytes.now painting.entry.room))
+        (entries_of painting.entry.shown.now painting.entry.n) (λ t. eqb t k) masks.old }
 {
-    room_strip(room, r, k, pixels, masks);
-    entries_strip(room, r, table, shown, n, k, pixels, masks);
+    room_strip(painting.bytes, painting.room, k, pixels, masks);
+    entries_strip(painting, k, pixels, masks);
 }
 
 // Rebuilds the strips of both surfaces whose byte in `touched` is not 0; every other byte stays.
@@ -58,14 +65,16 @@ pub fn rebuild(
         ≡ rebuilt_bytes (mask_layout (decoded room.now r)) (entries_of shown.now n)
         (λ t. not (eqb (get_or touched.now t 0) 0)) masks.old }
 {
-    let count = r.width / 8;
-    let mut k: usize = 0;
-    while k < count {
-        if touched[k] == 0 {
-            k += 1;
-        } else {
-            rebuild_strip(room, r, table, shown, n, k, pixels, masks);
-            k += 1;
+    let painting = Painting {
+        bytes: room,
+        room: r,
+        table,
+        shown,
+        n,
+    };
+    for k in 0..r.width / 8 {
+        if touched[k] != 0 {
+            rebuild_strip(painting, k, pixels, masks);
         }
     }
 }

@@ -1,8 +1,7 @@
 // Strip j of a picture, the room's own or an object's image, over strip k of the surfaces.
-ghost use Rattle.std.specs.Prelude.{◌≡◌, [], ℕ, ◌+◌, ◌-◌, ◌*◌, ◌≤◌, ◌<◌, eqb, length};
+ghost use Rattle.std.specs.Prelude.{◌≡◌, [], ℕ, ◌+◌, ◌-◌, ◌*◌, ◌≤◌, ◌<◌, eqb, length, Ok};
 ghost use Rattle.grid.specs.Grid.{upd, boxed};
 ghost use Rattle.grid.specs.Mask.{mask_over};
-ghost use Rattle.table.specs.declared.Test.TheVariants.{Passed};
 ghost use Rattle.room.specs.Head.{Sound};
 ghost use Rattle.room.specs.Test.{strips, pictures_test};
 ghost use Rattle.scene.specs.Painting.{pixel_layout, mask_layout, rebuilt_bytes};
@@ -13,7 +12,6 @@ use layers::Source;
 use layers::read::{none_clear, plane_rows};
 use load::paint::paint_strip;
 use room::Room;
-use strip::Answer;
 
 // Strip j of a picture over strip k of the pixels, from row y on. Answers whether none of its pixels is transparent.
 pub fn put_strip(
@@ -34,15 +32,19 @@ pub fn put_strip(
 {
     let mut scratch = [0u8; 1600];
     let height = m.height;
-    match table::read_strip(room, m.strips, height, m.smap, m.smap_end, j, &mut scratch) {
-        Answer::Drawn { clear } => {
-            grid::blit_strip(
-                pixels, r.width, r.height, k, y, &scratch, height, r.clear, clear,
-            );
-            none_clear(&scratch, 8 * height, r.clear, clear)
-        }
-        Answer::Refused(_) => true,
-    }
+    let clear = table::read_strip(
+        room,
+        m.strips,
+        height,
+        m.smap,
+        m.smap_end,
+        j,
+        &mut scratch,
+    ).unwrap();
+    grid::blit_strip(
+        pixels, r.width, r.height, k, y, &scratch, height, r.clear, clear,
+    );
+    none_clear(&scratch, 8 * height, r.clear, clear)
 }
 
 // Strip j of plane p of a picture over strip k of that plane, from row y on.
@@ -97,17 +99,14 @@ pub fn put_planes(
     ensures { masks.new
         ≡ upd (planes_byte room.now m j (strips r) r.height r.planes k y replace) masks.old }
 {
-    let planes = r.planes;
-    let mut p: usize = 1;
-    while p <= planes {
+    for p in 1..r.planes + 1 {
         put_plane(room, r, m, j, p, k, y, replace, masks);
-        p += 1;
     }
 }
 
 // The room's own strip k: its background, and its planes in the place of what the masks held.
 pub fn room_strip(room: &[u8], r: Room, k: usize, pixels: &mut [u8], masks: &mut [u8])
-    requires pictures_pass { Sound room.now r × (pictures_test room.now r ≡ Passed) × (k < strips r) }
+    requires pictures_pass { Sound room.now r × (pictures_test room.now r ≡ Ok tt) × (k < strips r) }
     requires surfaces_fit { (r.width * r.height ≤ length pixels.old) × (strips r * (r.planes * r.height) ≤ length masks.old) }
     ensures pixels_after { pixels.new
         ≡ rebuilt_bytes (pixel_layout (decoded room.now r)) [] (λ t. eqb t k) pixels.old }

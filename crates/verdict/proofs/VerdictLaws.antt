@@ -1,6 +1,6 @@
 -- Laws of verdicts: an image's own refusal is 8 or less, so it is never mistaken for 11 or for a cell that isn't judged; which verdicts are
 -- right; a table of verdicts after one more step; and what session's tables tell of the decoded room. Assumes nothing.
-use Rattle.std.proofs.Common.{ℕ, zero, suc, ◌+◌, ◌-◌, ◌*◌, ◌/◌, ◌≤◌, ◌<◌, Bool, true, false, cond, not, ◌&&◌, ◌||◌, List, [], ◌∷◌, eqb, leb, ltb, length, replicate, get_or, set, take, length-set, arith, ◌≡◌, refl, sym, ap, ◌∙◌, get_or-take, get_or-set_same, get_or-set_other, eq-eqb, ne_eqb, le-leb, leb-true, leb-false, eqb-true}
+use Rattle.std.proofs.Common.{ℕ, zero, suc, ◌+◌, ◌-◌, ◌*◌, ◌/◌, ◌≤◌, ◌<◌, Bool, true, false, cond, not, ◌&&◌, ◌||◌, List, [], ◌∷◌, eqb, leb, ltb, length, replicate, get_or, set, take, length-set, arith, ◌≡◌, refl, sym, ap, ◌∙◌, get_or-take, get_or-set_same, get_or-set_other, eq-eqb, ne_eqb, le-leb, leb-true, leb-false, eqb-true, Option, Some, None, Result, Ok, Err, IsSome}
 use mathlib.Core.Bool.{and-false, false≢true}
 use lib.ListN.{get_or-replicate, get_or-eq_default}
 use Rattle.number.proofs.BoolLaws.{and_left, and_right}
@@ -14,12 +14,8 @@ use Rattle.plane.specs.Mask.{Pending, literals, copies, rows_in, pending_of, row
 use Rattle.table.specs.Table.{table_right, offset_at}
 use Rattle.table.specs.Body.{body_of, strip_at, rows_at}
 use Rattle.table.specs.Test.{number, and_then, picture_test, rows_test, strip_test, leftmost, block_test}
-use Rattle.table.specs.declared.Test.{Test}
-use Rattle.table.specs.declared.Test.TheVariants.{Passed, Refused}
 use Rattle.block.specs.Tag.{tag-SMAP, tag-OBCD}
 use Rattle.block.specs.Tree.{find_tag, tagged}
-use Rattle.block.specs.declared.Found.{Found}
-use Rattle.block.specs.declared.Found.TheVariants.{At, Missing}
 use Rattle.room.specs.Picture.{plane_in, plane_found, plane_test, smap_and_planes_test}
 use Rattle.image.specs.Image.{image_width, image_height, state_block, object_count, image_block, image_count, home_x, home_y, is_object, drawable}
 use Rattle.image.specs.Fault.{smap_test, image_test, state_test, image_fault}
@@ -29,7 +25,7 @@ use borrow.Author.Tests.{lt-leb, eqb-false}
 use Rattle.objects.specs.Object.{object_block}
 use Rattle.room.specs.declared.Room.{Room}
 use Rattle.image.proofs.GatherLaws.{gathered-x, gathered-y, gathered-width, gathered-height}
-use Rattle.image.proofs.ImageLaws.{drawable_object, drawable_state}
+use Rattle.image.proofs.ImageLaws.{drawable_object, drawable_state, drawable_missing}
 use Rattle.image.proofs.FaultLaws.{fault_at}
 use Rattle.scene.specs.declared.Place.{Place}
 use Rattle.scene.specs.declared.Step.{Step}
@@ -152,21 +148,21 @@ low_rows (b ∷ t) (suc k) (literals zero) =
 
 -- ---- tests
 
-abbrev pub LowTest : Test → Type 0
-LowTest Passed = Unit {0}
-LowTest (Refused n) = (1 ≤ n) × (n ≤ 8)
+abbrev pub LowTest : Result (Unit {0}) ℕ → Type 0
+LowTest (Ok tt) = Unit {0}
+LowTest (Err n) = (1 ≤ n) × (n ≤ 8)
 
-low-number : (t : Test) → LowTest t → number t ≤ 8
-low-number Passed h = omega arith
-low-number (Refused n) h = h.1
+low-number : (t : Result (Unit {0}) ℕ) → LowTest t → number t ≤ 8
+low-number (Ok tt) h = omega arith
+low-number (Err n) h = h.1
 
-passed_of : (t : Test) → LowTest t → number t ≡ 0 → t ≡ Passed
-passed_of Passed h e = refl
-passed_of (Refused n) h e = absurd (omega arith)
+passed_of : (t : Result (Unit {0}) ℕ) → LowTest t → number t ≡ 0 → t ≡ Ok tt
+passed_of (Ok tt) h e = refl
+passed_of (Err n) h e = absurd (omega arith)
 
-pub low_then : (a b : Test) → LowTest a → LowTest b → LowTest (and_then a b)
-low_then Passed b p q = q
-low_then (Refused n) b p q = p
+pub low_then : (a b : Result (Unit {0}) ℕ) → LowTest a → LowTest b → LowTest (and_then a b)
+low_then (Ok tt) b p q = q
+low_then (Err n) b p q = p
 
 low-picture_test : (p : Picture) → LowPicture p → LowTest (picture_test p)
 low-picture_test (refusal n) h = h
@@ -189,7 +185,7 @@ unfolding strip_test strip_at
 low-strip_test false n h s b z k = low-picture_test (strip_of h (body_of false n s b z k)) (low-picture h (body_of false n s b z k))
 low-strip_test true n h s b z k = low-rows_test (rows_at n h s b z k) (low-rows_at n h s b z k)
 
-pub low-leftmost : (f : ℕ → Test) → ((k : ℕ) → LowTest (f k)) → (m k : ℕ) → LowTest (leftmost f k m)
+pub low-leftmost : (f : ℕ → Result (Unit {0}) ℕ) → ((k : ℕ) → LowTest (f k)) → (m k : ℕ) → LowTest (leftmost f k m)
 unfolding leftmost
 low-leftmost f each zero k = tt
 low-leftmost f each (suc m) k = low_then (f k) (leftmost f (k + 1) m) (each k) (low-leftmost f each m (k + 1))
@@ -198,13 +194,13 @@ pub low-block : (mask : Bool) (n h : ℕ) (s : List ℕ) (b z : ℕ) → LowTest
 unfolding block_test
 low-block mask n h s b z = on (table_right mask n s b z)
   where
-    on : (t : Bool) → LowTest (cond t (leftmost (strip_test mask n h s b z) 0 n) (Refused 5))
+    on : (t : Bool) → LowTest (cond t (leftmost (strip_test mask n h s b z) 0 n) (Err 5))
     on true = low-leftmost (strip_test mask n h s b z) (low-strip_test mask n h s b z) n 0
     on false = omega arith
 
-pub low-plane : (n h : ℕ) (s : List ℕ) (f : Found) → LowTest (plane_found n h s f)
-low-plane n h s (At b z) = low-block true n h s b z
-low-plane n h s Missing = tt
+pub low-plane : (n h : ℕ) (s : List ℕ) (f : Option (ℕ × ℕ)) → LowTest (plane_found n h s f)
+low-plane n h s (Some (b, z)) = low-block true n h s b z
+low-plane n h s None = tt
 
 low-plane_test : (n h : ℕ) (s : List ℕ) (b z k : ℕ) → LowTest (plane_test n h s b z k)
 unfolding plane_test
@@ -216,14 +212,14 @@ low_im planes n h s b z smap end =
     low_then (block_test false n h s smap end) (leftmost (plane_test n h s b z) 1 planes) (low-block false n h s smap end)
     (low-leftmost (plane_test n h s b z) (low-plane_test n h s b z) planes 1)
 
-low-smap : (planes n h : ℕ) (s : List ℕ) (b z : ℕ) (f : Found) → LowTest (smap_test planes n h s b z f)
-low-smap planes n h s b z (At smap end) = low_im planes n h s b z smap end
-low-smap planes n h s b z Missing = omega arith
+low-smap : (planes n h : ℕ) (s : List ℕ) (b z : ℕ) (f : Option (ℕ × ℕ)) → LowTest (smap_test planes n h s b z f)
+low-smap planes n h s b z (Some (smap, end)) = low_im planes n h s b z smap end
+low-smap planes n h s b z None = omega arith
 
-low_state : (planes n h : ℕ) (s : List ℕ) (f : Found) → LowTest (state_test planes n h s f)
+low_state : (planes n h : ℕ) (s : List ℕ) (f : Option (ℕ × ℕ)) → LowTest (state_test planes n h s f)
 unfolding image_test
-low_state planes n h s (At b z) = low-smap planes n h s (b + 8) z (find_tag tag-SMAP s (b + 8) z)
-low_state planes n h s Missing = omega arith
+low_state planes n h s (Some (b, z)) = low-smap planes n h s (b + 8) z (find_tag tag-SMAP s (b + 8) z)
+low_state planes n h s None = omega arith
 
 -- the image's own refusal
 pub low-fault : (planes : ℕ) (s : List ℕ) (o st : ℕ) → number (image_fault planes s o st) ≤ 8
@@ -233,7 +229,7 @@ low-fault planes s o st =
     (low_state planes (image_width s o / 8) (image_height s o) s (state_block s o st))
 
 -- no refusal is numbered 0
-pub fault-passed : (planes : ℕ) (s : List ℕ) (o st : ℕ) → number (image_fault planes s o st) ≡ 0 → image_fault planes s o st ≡ Passed
+pub fault-passed : (planes : ℕ) (s : List ℕ) (o st : ℕ) → number (image_fault planes s o st) ≡ 0 → image_fault planes s o st ≡ Ok tt
 unfolding image_fault
 fault-passed planes s o st e =
     passed_of (state_test planes (image_width s o / 8) (image_height s o) s (state_block s o st))
@@ -253,6 +249,11 @@ module _ (s : List ℕ) (r : Room) (o st : ℕ) where
 
   pub right-none : false ≡ drawable s o st → Right s r o st 11
   right-none d = record { low = omega arith; can_draw = sym d; own = λ q z. absurd (false≢true (d ∙ q)) }
+
+  -- a state that can be drawn has its block
+  pub drawable_there : true ≡ drawable s o st → (f : Option (ℕ × ℕ)) → f ≡ state_block s o st → IsSome f
+  drawable_there d (Some (b, z)) at = refl
+  drawable_there d None none = absurd (false≢true (drawable_missing s o st none ∙ sym d))
 
   pub right_large : true ≡ drawable s o st → (size_allowed (decoded s r) o ≡ true → ⊥) → Right s r o st 0
   right_large d k = record { low = omega arith; can_draw = sym d; own = λ q z. absurd (k z) }
@@ -281,8 +282,8 @@ module _ (s : List ℕ) (r : Room) (t : List ℕ) (o st : ℕ) (ready : Ready s 
   pub right-high : (h : ℕ) → h ≡ get_or t (8 * o + 4) 0 → r.height < h → Right s r o st 0
   right-high h e lt = right_large s r o st d (λ z. omega (arith, e, lt, row-height, (size-within s r o st z).1))
 
-  pub right_tested : (w h b z : ℕ) → w ≡ get_or t (8 * o + 3) 0 → h ≡ get_or t (8 * o + 4) 0 → At b z ≡ state_block s o st
-      → (a : Test) → a ≡ image_test r.planes (w / 8) h s (b + 8) z → Right s r o st (number a)
+  pub right_tested : (w h b z : ℕ) → w ≡ get_or t (8 * o + 3) 0 → h ≡ get_or t (8 * o + 4) 0 → Some (b, z) ≡ state_block s o st
+      → (a : Result (Unit {0}) ℕ) → a ≡ image_test r.planes (w / 8) h s (b + 8) z → Right s r o st (number a)
   right_tested w h b z ew eh at a e =
       let ww : w ≡ image_width s o = ew ∙ row-width in
       let hh : h ≡ image_height s o = eh ∙ row-height in
@@ -380,21 +381,21 @@ module _ (s : List ℕ) (r : Room) (v l : List ℕ) where
 -- ---- what the tables tell
 
 -- an object that isn't there has no image
-no_image : (s : List ℕ) (o : ℕ) → object_block s o ≡ Missing → image_block s o ≡ Missing
+no_image : (s : List ℕ) (o : ℕ) → object_block s o ≡ None → image_block s o ≡ None
 unfolding image_block
 no_image s o e = rw e
 
-image_zero : (s : List ℕ) (o : ℕ) → o ≡ 0 → image_block s o ≡ Missing
+image_zero : (s : List ℕ) (o : ℕ) → o ≡ 0 → image_block s o ≡ None
 unfolding object_block
 image_zero s o e = no_image s o (rw (eq-eqb o 0 e))
 
-image_past : (s : List ℕ) (o : ℕ) → object_count s < o → image_block s o ≡ Missing
+image_past : (s : List ℕ) (o : ℕ) → object_count s < o → image_block s o ≡ None
 unfolding object_block
 image_past s o lt =
     no_image s o
-    (rw (ne_eqb o 0 (λ e. omega (arith, lt, e))) (get_or-eq_default (tagged tag-OBCD s 8 (length s)) Missing {n = o - 1} (omega (arith, lt))))
+    (rw (ne_eqb o 0 (λ e. omega (arith, lt, e))) (get_or-eq_default (tagged tag-OBCD s 8 (length s)) None {n = o - 1} (omega (arith, lt))))
 
-module _ (s : List ℕ) (o : ℕ) (none : image_block s o ≡ Missing) where
+module _ (s : List ℕ) (o : ℕ) (none : image_block s o ≡ None) where
   none-x : home_x s o ≡ 0
   unfolding home_x
   none-x = rw none
@@ -413,7 +414,7 @@ module _ (s : List ℕ) (o : ℕ) (none : image_block s o ≡ Missing) where
 
 module _ (s : List ℕ) (r : Room) (t : List ℕ) (all : r.objects ≡ object_count s) where
   -- a field of an object's image, by its row
-  row_field : (o k f : ℕ) → (1 ≤ o → o ≤ object_count s → get_or t (8 * o + k) 0 ≡ f) → (image_block s o ≡ Missing → f ≡ 0) → f ≡ cell_of t r.objects o k
+  row_field : (o k f : ℕ) → (1 ≤ o → o ≤ object_count s → get_or t (8 * o + k) 0 ≡ f) → (image_block s o ≡ None → f ≡ 0) → f ≡ cell_of t r.objects o k
   row_field o k f there none =
       by_cases (ℕ_discrete o 0)
       (λ e. none (image_zero s o e) ∙ cell_none t r.objects o k e)

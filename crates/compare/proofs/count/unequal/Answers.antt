@@ -1,16 +1,16 @@
 use Rattle.std.proofs.Common.{◌≡◌, arith}
-use Rattle.compare.proofs.CountLaws.{differing-start, differing-next}
+use Rattle.compare.proofs.CountLaws.{differing-start, differing-next, differing-few}
 use Rattle.compare.proofs.count.unequal.Goals as goal
 
 -- `compare::count::unequal` meets its contract. Assumes nothing.
 
 pub loop-i-init : goal.loop-i-init
-loop-i-init c = (differing-start _ _, omega arith, omega arith)
+loop-i-init c = (differing-start _ _, omega arith)
 
 pub loop-i-preserved : goal.loop-i-preserved
 loop-i-preserved c =
-    let inv = c.loop-i.invariant in
-    (differing-next _ _ _ _ _ inv.0 c.unlike-count.ensures.0, omega arith, omega arith)
+    let next = differing-next _ _ _ _ _ c.loop-i.invariant.0 c.from-count.ensures in
+    (next, rw next (differing-few _ _ _))
 
 pub returns : goal.returns
 returns c =

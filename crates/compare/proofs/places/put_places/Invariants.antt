@@ -1,4 +1,4 @@
-use Rattle.std.proofs.Common.{◌-◌, ◌*◌, ◌≤◌, ◌≡◌, length}
+use Rattle.std.proofs.Common.{◌*◌, ◌≡◌, length}
 use lib.Seq.{sets}
 use Rattle.compare.specs.Compare.{listed_to, list_bytes}
 use Rattle.compare.specs.Tables.{table_at}
@@ -6,8 +6,5 @@ use Rattle.compare.proofs.places.put_places.Given as goal
 
 abbrev pub invariant-loop-k : goal.invariant-loop-k
 invariant-loop-k l =
-    (l.k ≤ l.n) × (length l.list ≡ length l.initial.list) × (l.at ≡ 8 * length (listed_to (table_at l.counts l.marks) l.k))
+    (l.at ≡ 8 * length (listed_to (table_at l.counts l.marks) l.k))
     × (l.list ≡ sets l.initial.list 0 (list_bytes (listed_to (table_at l.counts l.marks) l.k)))
-
-abbrev pub decreases-loop-k : goal.decreases-loop-k
-decreases-loop-k l = l.n - l.k

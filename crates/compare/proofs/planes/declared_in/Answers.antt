@@ -7,5 +7,5 @@ use Rattle.compare.proofs.planes.declared_in.Goals as goal
 pub returns-then-p-r : goal.returns-then-p-r
 returns-then-p-r c = rw (le-leb _ _ c.if-p-r.true) c.plane_in.ensures
 
-pub returns : goal.returns
-returns c = rw (lt-leb _ _ c.if-p-r.false)
+pub returns-else-p-r : goal.returns-else-p-r
+returns-else-p-r c = rw (lt-leb _ _ c.if-p-r.false)

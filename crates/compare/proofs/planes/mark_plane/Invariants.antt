@@ -1,12 +1,8 @@
-use Rattle.std.proofs.Common.{ℕ, ◌+◌, ◌-◌, ◌≤◌, ◌<◌, ◌≡◌, cond, length, get_or}
+use Rattle.std.proofs.Common.{ℕ, ◌+◌, ◌≤◌, ◌<◌, ◌≡◌, cond, get_or}
 use Rattle.compare.specs.Tables.{found_differ}
 use Rattle.compare.proofs.planes.mark_plane.Given as goal
 
 abbrev pub invariant-loop-k : goal.invariant-loop-k
 invariant-loop-k l =
-    (l.k ≤ l.n) × (length l.marks ≡ length l.initial.marks)
-    × ((j : ℕ) → j < l.k → get_or l.marks j 0 ≡ get_or l.initial.marks j 0 + cond (found_differ l.n l.h l.a l.f l.b l.g j) l.bit 0)
+    ((j : ℕ) → j < l.k → get_or l.marks j 0 ≡ get_or l.initial.marks j 0 + cond (found_differ l.n l.h l.a l.f l.b l.g j) l.bit 0)
     × ((j : ℕ) → l.k ≤ j → get_or l.marks j 0 ≡ get_or l.initial.marks j 0)
-
-abbrev pub decreases-loop-k : goal.decreases-loop-k
-decreases-loop-k l = l.n - l.k

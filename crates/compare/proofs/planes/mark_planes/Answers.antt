@@ -1,32 +1,22 @@
-use Rattle.std.proofs.Common.{◌≡◌, refl, ◌∙◌, add-one, arith}
+use Rattle.std.proofs.Common.{◌≡◌, ◌∙◌, add-one, arith}
 use Rattle.compare.proofs.planes.mark_planes.Goals as goal
 
 -- `compare::planes::mark_planes` meets its contract. Assumes nothing.
 
-pub larger-most-requires : goal.larger-most-requires
-larger-most-requires c = let ok = c.requires.comparable.0 in (ok.first.sound.few, ok.second.sound.few)
-
 pub loop-q-init : goal.loop-q-init
-loop-q-init c = (omega arith, refl, c.requires.none_marked)
+loop-q-init c = c.requires.none_marked
 
 pub mark_plane-requires : goal.mark_plane-requires
 mark_plane-requires c =
-    let inv = c.loop-q.invariant in record {
-      comparable = (c.requires.comparable.0, omega (arith, c.larger-most.ensures.1), omega (arith, inv.1, c.requires.comparable.1));
-      marked_before = inv.2;
+    let ok = c.args.pair.comparable in record {
+      in_marks = (omega (arith, ok.first.sound.few, ok.second.sound.few, c.max-q-end.ensures), omega (arith, c.requires.marks_fit));
+      marked_before = c.loop-q.invariant;
     }
 
 pub loop-q-preserved : goal.loop-q-preserved
-loop-q-preserved c =
-    let loop = c.loop-q in
-    let inv = loop.invariant in
-    (omega arith, c.mark_plane.auto.marks ∙ inv.1, rw (add-one loop.q) c.mark_plane.ensures)
-
-pub shape_of-marks : goal.shape_of-marks
-shape_of-marks c = c.loop-q.invariant.1
+loop-q-preserved c = rw (add-one c.loop-q.q) c.mark_plane.ensures
 
 pub returns : goal.returns
 returns c =
-    let loop = c.loop-q in
-    let done : loop.q ≡ c.larger-most.result = omega arith in
-    rw (done ∙ c.larger-most.ensures.0) at loop.invariant.2
+    let done : c.loop-q.q ≡ c.max-q-end.result = omega arith in
+    rw (done ∙ c.max-q-end.ensures) at c.loop-q.invariant

@@ -1,12 +1,8 @@
-use Rattle.std.proofs.Common.{◌≡◌, ℕ, ◌-◌, ◌*◌, ◌≤◌, length}
+use Rattle.std.proofs.Common.{◌≡◌, ℕ, ◌*◌}
 use Rattle.grid.specs.Grid.{upd, boxed}
 use Rattle.load.specs.Pair.{Shows}
 use Rattle.load.proofs.paint.blit_two.Given as goal
 
 abbrev pub invariant-loop-r : goal.invariant-loop-r
 invariant-loop-r l =
-    (l.r ≤ l.h) × (length l.pixels ≡ length l.initial.pixels)
-    × ((f : ℕ → ℕ → ℕ) → Shows 0 l.h l.left f → Shows 8 l.h l.right f → l.pixels ≡ upd (boxed l.w (8 * l.k) 0 16 l.r (λ c y o. f c y)) l.initial.pixels)
-
-abbrev pub decreases-loop-r : goal.decreases-loop-r
-decreases-loop-r l = l.h - l.r
+    (f : ℕ → ℕ → ℕ) → Shows 0 l.h l.left f → Shows 8 l.h l.right f → l.pixels ≡ upd (boxed l.w (8 * l.k) 0 16 l.r (λ c y o. f c y)) l.initial.pixels

@@ -3,7 +3,6 @@ use native.Mathlib.Nat.{sub-zero}
 use lib.ListN.{length-replicate, get_or-replicate}
 use Rattle.grid.proofs.Box.{box_none}
 use Rattle.plane.specs.Mask.{rows_of, literals}
-use Rattle.plane.proofs.MaskLaws.{rows_as}
 use Rattle.table.specs.Body.{row_values}
 use Rattle.load.proofs.JoinLaws.{passed-values, not-refused, still_owed, joined_on, column_part}
 use Rattle.load.proofs.paint.join_body.Goals as goal
@@ -16,78 +15,22 @@ loop-i-init c =
     let x = rows_of a.body.now a.h (literals 0) in
     (zero-le, zero-le, refl, box_none _ _ _ _ _ _, ap (λ (n : ℕ). rows_of a.body.now n (literals 0)) (sub-zero a.h) ∙ passed-values x pre.body_passes)
 
-pub overflow_add-at : goal.overflow_add-at
-overflow_add-at c =
-    let a = c.args in
-    let l = c.loop-i in
-    let e = rows_as a.body.now l.at (a.h - l.i) c.in-Literals.is c.rows_at.ensures in
-    omega (arith, e.1)
-
-pub slice_bounds-put_rows-count : goal.slice_bounds-put_rows-count
-slice_bounds-put_rows-count c =
-    let a = c.args in
-    let l = c.loop-i in
-    let e = rows_as a.body.now l.at (a.h - l.i) c.in-Literals.is c.rows_at.ensures in
-    omega (arith, e.1)
-
-pub slice_bounds-put_rows-start : goal.slice_bounds-put_rows-start
-slice_bounds-put_rows-start c =
-    let a = c.args in
-    let l = c.loop-i in
-    let e = rows_as a.body.now l.at (a.h - l.i) c.in-Literals.is c.rows_at.ensures in
-    omega (arith, e.1)
-
-pub slice_bounds-put_rows-end : goal.slice_bounds-put_rows-end
-slice_bounds-put_rows-end c =
-    let a = c.args in
-    let l = c.loop-i in
-    let e = rows_as a.body.now l.at (a.h - l.i) c.in-Literals.is c.rows_at.ensures in
-    omega (arith, e.1)
-
 pub put_rows-requires : goal.put_rows-requires
 put_rows-requires c =
-    let rows_at = c.rows_at in let l = c.loop-i in
-    let a = c.args in let pre = c.requires in
-    let e = rows_as a.body.now l.at (a.h - l.i) c.in-Literals.is rows_at.ensures in record {
-      in_plane = column_part _ _ _ _ _ _ _ _ _ pre.in_plane l.invariant.2 (omega (arith, e.0));
+    let l = c.loop-i in
+    let a = c.args in
+    let e = rw c.in-Ok-Literals.field-0-is at c.in-Ok-Literals.ensures in record {
+      in_plane = column_part _ _ _ _ _ _ _ _ _ c.requires.in_plane l.invariant.2 (omega (arith, e.0));
       rows_given = omega (arith, e.1, length-take (length a.body.now - (l.at + 1)) (drop (l.at + 1) a.body.now), length-drop (l.at + 1) a.body.now);
     }
 
-pub overflow_add-i : goal.overflow_add-i
-overflow_add-i c =
-    let rows_at = c.rows_at in
-    let l = c.loop-i in let a = c.args in
-    let e = rows_as a.body.now l.at (a.h - l.i) c.in-Literals.is rows_at.ensures in
-    omega (arith, e.0, e.1)
-
-pub overflow_add-at-in-Literals : goal.overflow_add-at-in-Literals
-overflow_add-at-in-Literals c =
-    let rows_at = c.rows_at in
-    let l = c.loop-i in let a = c.args in
-    let e = rows_as a.body.now l.at (a.h - l.i) c.in-Literals.is rows_at.ensures in
-    omega (arith, e.0, e.1)
-
-pub overflow_add-at-in-Literals-2 : goal.overflow_add-at-in-Literals-2
-overflow_add-at-in-Literals-2 c =
-    let rows_at = c.rows_at in
-    let l = c.loop-i in let a = c.args in
-    let e = rows_as a.body.now l.at (a.h - l.i) c.in-Literals.is rows_at.ensures in
-    omega (arith, e.0, e.1)
-
-pub loop-i-smaller-in-Literals : goal.loop-i-smaller-in-Literals
-loop-i-smaller-in-Literals c =
-    let rows_at = c.rows_at in
-    let l = c.loop-i in let a = c.args in
-    let e = rows_as a.body.now l.at (a.h - l.i) c.in-Literals.is rows_at.ensures in
-    omega (arith, e.0, e.1)
-
-pub loop-i-preserved-in-Literals : goal.loop-i-preserved-in-Literals
-loop-i-preserved-in-Literals c =
-    let put-rows = c.put_rows in let rows_at = c.rows_at in let l = c.loop-i in
+pub loop-i-preserved-in-Ok-Literals : goal.loop-i-preserved-in-Ok-Literals
+loop-i-preserved-in-Ok-Literals c =
+    let put-rows = c.put_rows in let l = c.loop-i in
     let a = c.args in
-    let e = rows_as a.body.now l.at (a.h - l.i) c.in-Literals.is rows_at.ensures in
+    let e = rw c.in-Ok-Literals.field-0-is at c.in-Ok-Literals.ensures in
     let s = a.body.now in
-    let m = c.in-Literals.m in
+    let m = c.in-Ok-Literals.m in
     let rows = row_values (rows_of s a.h (literals 0)) in
     let xs = take m (drop (l.at + 1) s) in
     let size : length xs ≡ m = omega (arith, length-take m (drop (l.at + 1) s), length-drop (l.at + 1) s, e.1) in (
@@ -101,55 +44,18 @@ loop-i-preserved-in-Literals c =
       still_owed s a.h l.i m l.at (l.at + 1 + m) rows xs l.invariant.4 e.2 size,
     )
 
-pub overflow_add-at-in-Copies : goal.overflow_add-at-in-Copies
-overflow_add-at-in-Copies c =
-    let a = c.args in
-    let l = c.loop-i in
-    let e = rows_as a.body.now l.at (a.h - l.i) c.in-Copies.is c.rows_at.ensures in
-    omega (arith, e.1)
-
-pub bounds-body-at : goal.bounds-body-at
-bounds-body-at c =
-    let rows_at = c.rows_at in let l = c.loop-i in
-    let a = c.args in
-    let e = rows_as a.body.now l.at (a.h - l.i) c.in-Copies.is rows_at.ensures in
-    omega (arith, e.1)
-
 pub join_run-requires : goal.join_run-requires
 join_run-requires c =
-    let rows_at = c.rows_at in let l = c.loop-i in
-    let a = c.args in let pre = c.requires in
-    let e = rows_as a.body.now l.at (a.h - l.i) c.in-Copies.is rows_at.ensures in
-    column_part _ _ _ _ _ _ _ _ _ pre.in_plane l.invariant.2 (omega (arith, e.0))
-
-pub overflow_add-i-in-Copies : goal.overflow_add-i-in-Copies
-overflow_add-i-in-Copies c =
-    let rows_at = c.rows_at in
-    let l = c.loop-i in let a = c.args in
-    let e = rows_as a.body.now l.at (a.h - l.i) c.in-Copies.is rows_at.ensures in
-    omega (arith, e.0, e.1)
-
-pub overflow_add-at-in-Copies-2 : goal.overflow_add-at-in-Copies-2
-overflow_add-at-in-Copies-2 c =
-    let rows_at = c.rows_at in
-    let l = c.loop-i in let a = c.args in
-    let e = rows_as a.body.now l.at (a.h - l.i) c.in-Copies.is rows_at.ensures in
-    omega (arith, e.0, e.1)
-
-pub loop-i-smaller : goal.loop-i-smaller
-loop-i-smaller c =
-    let rows_at = c.rows_at in
-    let l = c.loop-i in let a = c.args in
-    let e = rows_as a.body.now l.at (a.h - l.i) c.in-Copies.is rows_at.ensures in
-    omega (arith, e.0, e.1)
+    let e = rw c.in-Ok-Copies.field-0-is at c.in-Ok-Copies.ensures in
+    column_part _ _ _ _ _ _ _ _ _ c.requires.in_plane c.loop-i.invariant.2 (omega (arith, e.0))
 
 pub loop-i-preserved : goal.loop-i-preserved
 loop-i-preserved c =
-    let join-run = c.join_run in let rows_at = c.rows_at in let l = c.loop-i in
+    let join-run = c.join_run in let l = c.loop-i in
     let a = c.args in
-    let e = rows_as a.body.now l.at (a.h - l.i) c.in-Copies.is rows_at.ensures in
+    let e = rw c.in-Ok-Copies.field-0-is at c.in-Ok-Copies.ensures in
     let s = a.body.now in
-    let m = c.in-Copies.m in
+    let m = c.in-Ok-Copies.m in
     let rows = row_values (rows_of s a.h (literals 0)) in
     let xs = replicate m (get_or s (l.at + 1) 0) in
     let size : length xs ≡ m = length-replicate m (get_or s (l.at + 1) 0) in (
@@ -162,18 +68,8 @@ loop-i-preserved c =
       still_owed s a.h l.i m l.at (l.at + 2) rows xs l.invariant.4 e.2 size,
     )
 
-pub shape_of-masks-in-Refuse : goal.shape_of-masks-in-Refuse
-shape_of-masks-in-Refuse c = c.loop-i.invariant.2
-
-pub returns-in-Refuse : goal.returns-in-Refuse
-returns-in-Refuse c =
-    let a = c.args in
-    let l = c.loop-i in
-    let e = rows_as a.body.now l.at (a.h - l.i) c.in-Refuse.is c.rows_at.ensures in
-    absurd (not-refused _ _ (sym l.invariant.4 ∙ e))
-
-pub shape_of-masks : goal.shape_of-masks
-shape_of-masks c = c.loop-i.invariant.2
+pub returns-in-Err : goal.returns-in-Err
+returns-in-Err c = absurd (not-refused _ _ (sym c.loop-i.invariant.4 ∙ c.in-Err.ensures))
 
 pub returns : goal.returns
 returns c =

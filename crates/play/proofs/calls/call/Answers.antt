@@ -9,7 +9,7 @@ use Rattle.play.proofs.calls.call.Goals as goal
 
 pub gather-requires : goal.gather-requires
 gather-requires c =
-    let right = sym c.in-Right.is ∙ c.test_room.ensures in
+    let right = sym c.in-Ok.is ∙ c.test_room.ensures in
     let few = few-objects _ _ _ right in
     (few.0, few.1, omega arith)
 
@@ -18,30 +18,30 @@ call_tested-requires c =
     let passed = c in
     let lent = c.surfaces_lent-lent in
     let a = c.args in
-    let right = sym c.in-Right.is ∙ c.test_room.ensures in
+    let right = sym c.in-Ok.is ∙ c.test_room.ensures in
     let passes = test-passes _ _ _ (right ∙ ap (λ l. room_test l a.room.now) lent.ensures) in
     let long =
-    surfaces-long session_size (length a.session.now) (length a.pixels.now) (length a.masks.now) c.in-Right.r passes.enough in
+    surfaces-long session_size (length a.session.now) (length a.pixels.now) (length a.masks.now) c.in-Ok.r passes.enough in
     let gathered = c.gather.ensures in record {
       ready_with_session = (record { sound = passes.sound; passed = passes.pictures; gathered = gathered }, objects-counted _ _ _ right, long.0);
       surfaces_fit = (long.1, long.2);
     }
 
-pub returns-in-Right : goal.returns-in-Right
-returns-in-Right c =
+pub returns-in-Ok : goal.returns-in-Ok
+returns-in-Ok c =
     let done = c.call_tested in
     let lent = c.surfaces_lent-lent in
     let a = c.args in
-    let right = sym c.in-Right.is ∙ c.test_room.ensures ∙ ap (λ l. room_test l a.room.now) lent.ensures in record {
+    let right = sym c.in-Ok.is ∙ c.test_room.ensures ∙ ap (λ l. room_test l a.room.now) lent.ensures in record {
       number = rw (← right) done.ensures.number;
       lent_after = rw (← right) done.ensures.lent_after;
     }
 
-pub returns-in-Refused : goal.returns-in-Refused
-returns-in-Refused c =
+pub returns-in-Err : goal.returns-in-Err
+returns-in-Err c =
     let lent = c.surfaces_lent-lent in
     let a = c.args in
-    let no = sym c.in-Refused.is ∙ c.test_room.ensures ∙ ap (λ l. room_test l a.room.now) lent.ensures in record {
-      number = rw (← no);
+    let no = sym c.in-Err.is ∙ c.test_room.ensures ∙ ap (λ l. room_test l a.room.now) lent.ensures in record {
+      number = rw (← no) (c.from.ensures ∙ c.number.ensures);
       lent_after = rw (← no);
     }

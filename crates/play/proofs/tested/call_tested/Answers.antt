@@ -21,29 +21,29 @@ plan-after-requires c =
       strips_fit = omega arith;
     }
 
-pub returns-then-refusal-ne0 : goal.returns-then-refusal-ne0
-returns-then-refusal-ne0 c =
+pub returns-then-after-ne0 : goal.returns-then-after-ne0
+returns-then-after-ne0 c =
     let a = c.args in
     let l = a.session.now in
     let v = c.judge.new.verdicts in
     let after = c.plan-after.result in
     let told = rw c.size_of-size.ensures at c.plan-after.ensures in record {
-      number = number_is a.room.now a.r a.table.now v l
+      number = c.from.ensures ∙ number_is a.room.now a.r a.table.now v l
           a.pixels.now a.masks.now a.call
           c.requires.ready_with_session.2 c.judge.ensures after told.plan;
       lent_after = refused_stays a.room.now a.r a.table.now v l
           a.pixels.now a.masks.now a.call
-          c.requires.ready_with_session.2 c.judge.ensures after told.plan c.if-refusal-ne0.true;
+          c.requires.ready_with_session.2 c.judge.ensures after told.plan c.if-after-ne0.true;
     }
 
 pub store_history-requires : goal.store_history-requires
 store_history-requires c =
-    (c.requires.ready_with_session.2, (c.plan-after.ensures.storable c.if-refusal-ne0.false).0)
+    (c.requires.ready_with_session.2, (c.plan-after.ensures.storable c.if-after-ne0.false).0)
 
 pub store_shown-requires : goal.store_shown-requires
 store_shown-requires c =
     let stored = c.store_history in
-    let if1 = c.if-refusal-ne0 in
+    let if1 = c.if-after-ne0 in
     let accepted = if1.false in
     let long : session_size ≤ length stored.new.session = omega (arith, stored.auto.session, c.requires.ready_with_session.2) in
     (long, c.plan-after.ensures.few, (c.plan-after.ensures.storable accepted).1)
@@ -60,7 +60,7 @@ rebuild-requires c =
     let fine =
     after_fine a.room.now a.r a.table.now v l
     a.pixels.now a.masks.now a.call
-    c.requires.ready_with_session.2 c.judge.ensures after told.plan c.if-refusal-ne0.false in
+    c.requires.ready_with_session.2 c.judge.ensures after told.plan c.if-after-ne0.false in
     let room : 4 * after.n ≤ length flat.new.out = omega (arith, flat.auto.out, told.few) in
     let all = listed a.room.now a.r flat.new.out after.n _ room flat.ensures fine in
     let marked = c.plan-after.new.strips in
@@ -75,7 +75,7 @@ returns c =
     let listed = c.store_shown in
     let stored = c.store_history in
     let flat = c.flatten in
-    let y = c.if-refusal-ne0.false in
+    let y = c.if-after-ne0.false in
     let a = c.args in
     let l = a.session.now in
     let v = c.judge.new.verdicts in

@@ -1,6 +1,7 @@
-use Rattle.std.proofs.Common.{arith, ◌∙◌}
+use Rattle.std.proofs.Common.{arith, ap, ◌∙◌, Err}
 use Rattle.point.proofs.CallLaws.{asked_wrong, asked-right_of, asked-below, asked_in}
 use Rattle.point.specs.Call.{asked}
+use Rattle.point.proofs.call.ask.Goals.{then-r-px-via-then-r-px, then-r-px-via-else-r-px+then-r-py}
 use Rattle.point.proofs.call.ask.Goals as goal
 
 pub judge_history-requires : goal.judge_history-requires
@@ -26,41 +27,29 @@ valid_shown-shown-requires c =
 
 pub returns-then-shown-ne0 : goal.returns-then-shown-ne0
 returns-then-shown-ne0 c =
-    let valid-shown' = c.valid_shown-shown in let size-of' = c.size_of-size in let judge-history' = c.judge_history in
-    let args = c.args in
-    let valid-shown = valid-shown' in let size_of = size-of' in
-    let judge-history = judge-history' in let a = args in
-    let v = judge-history.new.verdicts in
-    asked_wrong a.room.now a.r a.table.now v a.session.now a.flags.now a.x a.y judge-history.ensures valid-shown.result
-    (rw size_of.ensures at valid-shown.ensures.plan) c.if-shown-ne0.true
+    let a = c.args in
+    ap Err c.into.ensures
+    ∙ asked_wrong a.room.now a.r a.table.now c.judge_history.new.verdicts a.session.now a.flags.now a.x a.y c.judge_history.ensures
+    c.valid_shown-shown.result (rw c.size_of-size.ensures at c.valid_shown-shown.ensures.plan) c.if-shown-ne0.true
 
 pub returns-then-r-px : goal.returns-then-r-px
 returns-then-r-px c =
-    let wide-u32' = c.wide_u32-px in
-    let wide-u32 = wide-u32' in let if1 = c.if-shown-ne0 in
-    let valid-shown = c.valid_shown-shown in let size_of = c.size_of-size in
-    let judge-history = c.judge_history in let a =
-    c.args in
-    let v = judge-history.new.verdicts in
-    asked-right_of a.room.now a.r a.table.now v a.session.now a.flags.now a.x a.y judge-history.ensures valid-shown.result
-    (rw size_of.ensures at valid-shown.ensures.plan) if1.false (omega (arith, wide-u32.ensures.0, c.if-r-px.true))
+    let a = c.args in
+    let v = c.judge_history.new.verdicts in
+    let shown = c.valid_shown-shown.result in
+    let plan = rw c.size_of-size.ensures at c.valid_shown-shown.ensures.plan in
+    let right = c.if-shown-ne0.false in
+    ap Err c.into-then-r-px.ensures ∙ elim c.then-r-px.branch [
+      | then-r-px-via-then-r-px w ↦
+          asked-right_of a.room.now a.r a.table.now v a.session.now a.flags.now a.x a.y c.judge_history.ensures shown plan right
+          (omega (arith, c.wide_u32-px.ensures.0, w.if-r-px.true))
+      | then-r-px-via-else-r-px+then-r-py w ↦
+          asked-below a.room.now a.r a.table.now v a.session.now a.flags.now a.x a.y c.judge_history.ensures shown plan right
+          (omega (arith, c.wide_u32-px.ensures.0, w.if-r-px.false)) (omega (arith, c.wide_u32-py.ensures.0, w.if-r-py.true))
+    ]
 
-pub returns-then-r-py : goal.returns-then-r-py
-returns-then-r-py c =
-    let if2' = c.if-r-px in let wide-u322' = c.wide_u32-py in
-    let wide-u32' = c.wide_u32-px in
-    let if2 = if2' in let wide-u322 = wide-u322' in let wide-u32 = wide-u32' in
-    let if1 = c.if-shown-ne0 in
-    let valid-shown = c.valid_shown-shown in let size_of = c.size_of-size in
-    let judge-history = c.judge_history in let a =
-    c.args in
-    let v = judge-history.new.verdicts in
-    asked-below a.room.now a.r a.table.now v a.session.now a.flags.now a.x a.y judge-history.ensures valid-shown.result
-    (rw size_of.ensures at valid-shown.ensures.plan) if1.false (omega (arith, wide-u32.ensures.0, if2.false))
-    (omega (arith, wide-u322.ensures.0, c.if-r-py.true))
-
-pub seek-o-requires : goal.seek-o-requires
-seek-o-requires c =
+pub seek-requires : goal.seek-requires
+seek-requires c =
     let valid-shown = c.valid_shown-shown in
     let e = c.size_of-size.ensures in
     let pre = c.requires in
@@ -71,16 +60,11 @@ seek-o-requires c =
 
 pub returns : goal.returns
 returns c =
-    let if3' = c.if-r-py in let if2' = c.if-r-px in
-    let wide-u322' = c.wide_u32-py in let wide-u32' = c.wide_u32-px in
-    let if3 = if3' in let if2 = if2' in
-    let wide-u322 = wide-u322' in let wide-u32 = wide-u32' in
-    let if1 = c.if-shown-ne0 in
-    let valid-shown = c.valid_shown-shown in let size_of = c.size_of-size in
-    let judge-history = c.judge_history in let a =
-    c.args in
-    let v = judge-history.new.verdicts in
-    asked_in a.room.now a.r a.table.now v a.session.now a.flags.now wide-u32.result wide-u322.result judge-history.ensures
-    valid-shown.result (rw size_of.ensures at valid-shown.ensures.plan) if1.false (omega (arith, if2.false)) (omega (arith, if3.false)) _ _
-    c.answer.ensures _ (rw size_of.ensures at (valid-shown.ensures.last if1.false)) c.seek-o.ensures
-    ∙ (λ i. asked a.room.now a.r a.session.now a.flags.now (wide-u32.ensures.0 i) (wide-u322.ensures.0 i))
+    let a = c.args in
+    let px = c.wide_u32-px in let py = c.wide_u32-py in
+    let shown = c.valid_shown-shown in
+    let right = c.if-shown-ne0.false in
+    asked_in a.room.now a.r a.table.now c.judge_history.new.verdicts a.session.now a.flags.now px.result py.result c.judge_history.ensures
+    shown.result (rw c.size_of-size.ensures at shown.ensures.plan) right c.if-r-px.false c.if-r-py.false _ _
+    (rw c.size_of-size.ensures at (shown.ensures.last right)) c.seek.ensures
+    ∙ (λ i. asked a.room.now a.r a.session.now a.flags.now (px.ensures.0 i) (py.ensures.0 i))

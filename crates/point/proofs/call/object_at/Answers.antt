@@ -1,4 +1,4 @@
-use Rattle.std.proofs.Common.{sym, ap, ◌∙◌, arith, length}
+use Rattle.std.proofs.Common.{rules, sym, ap, ◌∙◌, arith, length}
 use Rattle.point.specs.Call.{pointed_at}
 use Rattle.room.specs.Test.{room_test}
 use Rattle.room.proofs.TestLaws.{test-passes, flags_long}
@@ -8,7 +8,7 @@ use Rattle.point.proofs.call.object_at.Goals as goal
 
 pub gather-requires : goal.gather-requires
 gather-requires c =
-    let right = sym c.in-Right.is ∙ c.test_room.ensures in
+    let right = sym c.in_ok-r.was ∙ c.test_room.ensures in
     let few = few-objects _ _ _ right in
     (few.0, few.1, omega arith)
 
@@ -16,25 +16,25 @@ pub ask-requires : goal.ask-requires
 ask-requires c =
     let gather = c.gather in let test-room = c.test_room in let flags-lent = c.flags_lent-lent in
     let a = c.args in
-    let right = sym c.in-Right.is ∙ test-room.ensures in
+    let right = sym c.in_ok-r.was ∙ test-room.ensures in
     let passes = test-passes _ _ _ (right ∙ ap (λ l. room_test l a.room.now) flags-lent.ensures) in
-    let long = flags_long session_size (length a.session.now) (length a.flags.now) c.in-Right.r passes.enough in record {
+    let long = flags_long session_size (length a.session.now) (length a.flags.now) c.in_ok-r.r passes.enough in record {
       ready = (record { sound = passes.sound; passed = passes.pictures; gathered = gather.ensures }, objects-counted _ _ _ right);
       session_and_flags_fit = long;
     }
 
-pub returns-in-Right : goal.returns-in-Right
+pub returns : goal.returns
 unfolding pointed_at
-returns-in-Right c =
+returns c =
     let test-room = c.test_room in
     let flags-lent = c.flags_lent-lent in
     let args = c.args in
-    let right = sym c.in-Right.is ∙ test-room.ensures ∙ ap (λ l. room_test l args.room.now) flags-lent.ensures in
+    let right = sym c.in_ok-r.was ∙ test-room.ensures ∙ ap (λ l. room_test l args.room.now) flags-lent.ensures in
     rw (← right) c.ask.ensures
 
-pub returns-in-Refused : goal.returns-in-Refused
+pub returns-in_err-r : goal.returns-in_err-r
 unfolding pointed_at
-returns-in-Refused c =
+returns-in_err-r c =
     let test-room = c.test_room in let flags-lent = c.flags_lent-lent in let args = c.args in
-    let no = sym c.in-Refused.is ∙ test-room.ensures ∙ ap (λ l. room_test l args.room.now) flags-lent.ensures in
-    rw (← no)
+    let no = sym c.in_err-r.was ∙ test-room.ensures ∙ ap (λ l. room_test l args.room.now) flags-lent.ensures in
+    rw (← no) (search rules)

@@ -1,4 +1,5 @@
-use Rattle.std.proofs.Common.{arith, sym, ◌∙◌}
+use Rattle.std.proofs.Common.{arith, sym, ap, ◌∙◌}
+use Rattle.point.specs.Call.{found}
 use Rattle.point.proofs.TableLaws.{object_told}
 use Rattle.stored.specs.Bytes.{entries}
 use Rattle.point.proofs.call.seek.Goals as goal
@@ -15,5 +16,5 @@ returns c =
     let t = list-objects.new.table in
     let states = fill-states.new.states in
     c.lowest_hit.ensures
-    ∙ sym (object_told a.room.now _ t list-objects.ensures.filled a.size pre.size_right.0 pre.size_right.1.2 (entries a.shown) states fill-states.ensures
-    a.places.now a.flags.now a.x a.y)
+    ∙ ap found (sym (object_told a.room.now _ t list-objects.ensures.filled a.size pre.size_right.0 pre.size_right.1.2 (entries a.shown) states
+    fill-states.ensures a.places.now a.flags.now a.x a.y))

@@ -1,15 +1,22 @@
-use Rattle.std.proofs.Common.{◌∙◌}
-use Rattle.std.proofs.lemmas.Bool.{not_from_false, not_from_true}
-use Rattle.point.proofs.TableLaws.{hit_beside, hit-flagged, hit-chain}
+use Rattle.std.proofs.Common.{◌≡◌, refl, sym, ◌∙◌, ◌-◌, ◌&&◌, true, false, eqb, get_or}
+use Rattle.point.specs.Tables.{holds_in}
+use Rattle.point.proofs.TableLaws.{hit_told}
+use Rattle.point.proofs.hit.is_hit.Goals.{Joined-holds, then-holds, else-holds}
 use Rattle.point.proofs.hit.is_hit.Goals as goal
 
-pub returns-then-not-holds : goal.returns-then-not-holds
-returns-then-not-holds c = hit_beside _ _ _ _ _ _ _ _ _ c.holds.ensures (not_from_false _ c.if-not-holds.true)
+first : (c : Joined-holds) → c.if-holds.value
+    ≡ (holds_in c.args.boxes.now c.args.places.now c.args.size c.args.x c.args.y c.args.o && eqb (get_or c.args.flags.now (c.args.o - 1) 0) 0)
+first c =
+    elim c.if-holds.branch [
+      | then-holds w ↦ w.value-is ∙ (λ i. w.if-holds.ensures i && eqb (get_or c.args.flags.now (c.args.o - 1) 0) 0)
+      | else-holds w ↦ w.value-is ∙ w.if-holds.false ∙ (λ i. w.if-holds.ensures i && eqb (get_or c.args.flags.now (c.args.o - 1) 0) 0)
+    ]
 
-pub returns-then-flags-o-ne0 : goal.returns-then-flags-o-ne0
-returns-then-flags-o-ne0 c = hit-flagged _ _ _ _ _ _ _ _ _ c.holds.ensures (not_from_true _ c.if-not-holds.false) c.if-flags-o-ne0.true
+pub returns-then-flags-o-eq0 : goal.returns-then-flags-o-eq0
+returns-then-flags-o-eq0 c =
+    hit_told _ _ _ _ _ _ _ _ true _ (sym c.if-flags-o-eq0.true ∙ first (goal.at.returns-then-flags-o-eq0 c).Joined-holds) c.is_open.ensures
 
-pub returns : goal.returns
-returns c =
-    let if1 = c.if-not-holds in let holds = c.holds in
-    c.is_open.ensures ∙ hit-chain _ _ _ _ _ _ _ _ _ holds.ensures (not_from_true _ if1.false) c.if-flags-o-ne0.false
+pub returns-else-flags-o-eq0 : goal.returns-else-flags-o-eq0
+returns-else-flags-o-eq0 c =
+    let no = c.if-flags-o-eq0.false in
+    no ∙ hit_told _ _ _ _ _ _ _ _ false _ (sym no ∙ first (goal.at.returns-else-flags-o-eq0 c).Joined-holds) refl

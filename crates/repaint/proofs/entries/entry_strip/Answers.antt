@@ -9,35 +9,35 @@ use Rattle.repaint.proofs.entries.entry_strip.Goals as goal
 
 pub covers_strip-requires : goal.covers_strip-requires
 covers_strip-requires c =
-    let table = c.requires.entry_ready.0.gathered in
-    let fit = entry_fits _ _ _ c.requires.entry_ready.1 in
+    let table = c.args.painting.ready.gathered in
+    let fit = entry_fits _ _ _ c.requires.entry_ready.0 in
     (omega (arith, fit.last, table.few), table.long)
 
 pub source_of-m-requires : goal.source_of-m-requires
 source_of-m-requires c =
-    let fit = entry_fits _ _ _ c.requires.entry_ready.1 in record {
-      object_gathered = (c.requires.entry_ready.0.gathered, fit.first, fit.last, fit.state);
+    let fit = entry_fits _ _ _ c.requires.entry_ready.0 in record {
+      object_gathered = (c.args.painting.ready.gathered, fit.first, fit.last, fit.state);
       has_smap = fit.smap;
     }
 
 pub overflow_sub-j : goal.overflow_sub-j
 overflow_sub-j c =
     let e = c.args.e in
-    let can = c.requires.entry_ready.1 in
+    let can = c.requires.entry_ready.0 in
     let by-table = c.covers_strip.ensures in
-    let on = entry_covers _ _ e can _ _ _ c.requires.entry_ready.0.gathered by-table ∙ c.if-covers_strip.true in
+    let on = entry_covers _ _ e can _ _ _ c.args.painting.ready.gathered by-table ∙ c.if-covers_strip.true in
     (covers_in _ _ e can _ on).0
 
 pub put_strip-opaque-requires : goal.put_strip-opaque-requires
 put_strip-opaque-requires c =
     let e = c.args.e in
-    let ready = c.requires.entry_ready.0 in
-    let can = c.requires.entry_ready.1 in
+    let ready = c.args.painting.ready in
+    let can = c.requires.entry_ready.0 in
     let by-table = c.covers_strip.ensures in
     let on = entry_covers _ _ e can _ _ _ ready.gathered by-table ∙ c.if-covers_strip.true in
     let here = covering _ _ e can _ c.source_of-m.ensures ready.sound _ on in record {
       readable = (ready.sound, here.readable, here.strip);
-      in_pixels = (c.requires.entry_ready.2, here.low, c.requires.surfaces_fit.0);
+      in_pixels = (c.requires.entry_ready.1, here.low, c.requires.surfaces_fit.0);
     }
 
 pub put_planes-requires : goal.put_planes-requires
@@ -45,24 +45,24 @@ put_planes-requires c =
     let source_of = c.source_of-m in
     let if1 = c.if-covers_strip in let covers-strip = c.covers_strip in
     let e = c.args.e in
-    let ready = c.requires.entry_ready.0 in
-    let can = c.requires.entry_ready.1 in
+    let ready = c.args.painting.ready in
+    let can = c.requires.entry_ready.0 in
     let by-table = covers-strip.ensures in
     let taken = if1.true in
     let on = entry_covers _ _ e can _ _ _ ready.gathered by-table ∙ taken in
     let here = covering _ _ e can _ source_of.ensures ready.sound _ on in record {
       readable = (ready.sound, here.readable, here.strip);
       planes_pass = here.planes;
-      in_masks = (c.requires.entry_ready.2, here.low, c.requires.surfaces_fit.1);
+      in_masks = (c.requires.entry_ready.1, here.low, c.requires.surfaces_fit.1);
     }
 
 pub returns-then-covers_strip : goal.returns-then-covers_strip
 returns-then-covers_strip c =
     let e = c.args.e in
-    let r = c.args.r in
-    let ready = c.requires.entry_ready.0 in
-    let can = c.requires.entry_ready.1 in
-    let inside = c.requires.entry_ready.2 in
+    let r = c.args.painting.room in
+    let ready = c.args.painting.ready in
+    let can = c.requires.entry_ready.0 in
+    let inside = c.requires.entry_ready.1 in
     let by-table = c.covers_strip.ensures in
     let taken = c.if-covers_strip.true in
     let on = entry_covers _ _ e can _ _ _ ready.gathered by-table ∙ taken in
@@ -76,8 +76,8 @@ returns-then-covers_strip c =
 pub returns-else-covers_strip : goal.returns-else-covers_strip
 returns-else-covers_strip c =
     let e = c.args.e in
-    let can = c.requires.entry_ready.1 in
-    let off = entry_covers _ _ e can _ _ _ c.requires.entry_ready.0.gathered c.covers_strip.ensures ∙ c.if-covers_strip.false in record {
+    let can = c.requires.entry_ready.0 in
+    let off = entry_covers _ _ e can _ _ _ c.args.painting.ready.gathered c.covers_strip.ensures ∙ c.if-covers_strip.false in record {
       pixels_after = over_off _ _ _ _ (pixels_local _) e off;
       masks_after = over_off _ _ _ _ (masks_local _) e off;
     }

@@ -1,4 +1,4 @@
-use Rattle.std.proofs.Common.{length, ◌≡◌, ◌+◌, ◌-◌, ◌*◌, ◌%◌, ◌≤◌}
+use Rattle.std.proofs.Common.{◌≡◌, ◌-◌, ◌*◌, ◌%◌}
 use Rattle.layers.specs.Source.{rows_byte}
 use Rattle.layers.specs.Layer.{strip_byte}
 use Rattle.room.specs.Test.{strips}
@@ -7,9 +7,5 @@ use Rattle.repaint.proofs.picture.put_planes.Given as goal
 
 abbrev pub invariant-loop-p : goal.invariant-loop-p
 invariant-loop-p l =
-    (1 ≤ l.p) × (l.p ≤ l.planes + 1) × (length l.masks ≡ length l.initial.masks)
-    × (l.masks ≡ upd (strip_byte ((l.p - 1) * l.r.height * strips l.r) (λ i. i % strips l.r) l.k
-    (rows_byte l.room l.m l.j (strips l.r) l.r.height l.k l.y l.replace)) l.initial.masks)
-
-abbrev pub decreases-loop-p : goal.decreases-loop-p
-decreases-loop-p l = l.planes + 1 - l.p
+    l.masks ≡ upd (strip_byte ((l.p - 1) * l.r.height * strips l.r) (λ i. i % strips l.r) l.k
+    (rows_byte l.room l.m l.j (strips l.r) l.r.height l.k l.y l.replace)) l.initial.masks

@@ -13,21 +13,16 @@ read_strip-requires c =
       pixels_fit = (p.1.low, omega arith);
     }
 
-pub returns-in-Drawn : goal.returns-in-Drawn
-returns-in-Drawn c =
-    let blit-strip = c.blit_strip in
-    let read-strip = c.read_strip in
+pub unwrap-clear-requires : goal.unwrap-clear-requires
+unwrap-clear-requires c =
     let p = c.requires.readable in
-    let read = read-strip.ensures in
-    let drawn = c.in-Drawn.is in
-    let blit = blit-strip.ensures in record {
-      is_opaque = c.none_clear.ensures ∙ read_none_clear _ _ _ p.1 p.2 _ _ _ read _ drawn _;
-      pixels_after = box_same _ _ _ _ _ _ _ _ _ (λ x q o lx lq. read_over _ _ _ p.1 p.2 _ _ _ read _ drawn _ _ o (omega arith)) blit;
-    }
+    strip_read _ _ _ p.1 p.2 _ _ _ c.read_strip.ensures
 
-pub returns-in-Refused : goal.returns-in-Refused
-returns-in-Refused c =
-    let p = c.requires.readable in record {
-      is_opaque = absurd (strip_read _ _ _ p.1 p.2 _ _ _ c.read_strip.ensures _ c.in-Refused.is);
-      pixels_after = absurd (strip_read _ _ _ p.1 p.2 _ _ _ c.read_strip.ensures _ c.in-Refused.is);
+pub returns : goal.returns
+returns c =
+    let p = c.requires.readable in
+    let read = c.read_strip.ensures in
+    let drawn = c.unwrap-clear.ensures in record {
+      is_opaque = c.none_clear.ensures ∙ read_none_clear _ _ _ p.1 p.2 _ _ _ read _ drawn _;
+      pixels_after = box_same _ _ _ _ _ _ _ _ _ (λ x q o lx lq. read_over _ _ _ p.1 p.2 _ _ _ read _ drawn _ _ o (omega arith)) c.blit_strip.ensures;
     }
