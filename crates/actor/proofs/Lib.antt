@@ -2,7 +2,6 @@ pub mod CornerLaws
 pub mod SizeLaws
 pub mod MaskLaws
 pub mod StampLaws
-pub mod AnswerLaws
 pub mod ActorLaws
 pub mod PictureLaws
 mod Examples

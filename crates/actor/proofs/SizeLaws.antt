@@ -5,10 +5,6 @@ use Rattle.actor.specs.Sizes.{sizes_fit, picture_fits, mask_bytes, buffers_fit, 
 use Rattle.actor.specs.Hidden.{hidden_number}
 use Rattle.actor.specs.Stamp.{stamp_number, Buffers}
 
--- two tests that are told apart from their answers
-pub both_are : (a b p q t : Bool) → a ≡ p → b ≡ q → (a && b) ≡ t → (p && q) ≡ t
-both_are a b p q t ea eb e = rw (← ea, ← eb) e
-
 -- no refusal: the test holds, and none comes after it
 pub none-refused : (b : Bool) (n rest : ℕ) → cond b rest (suc n) ≡ 0 → (b ≡ true) × (rest ≡ 0)
 none-refused true n rest e = (refl, e)

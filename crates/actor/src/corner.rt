@@ -6,7 +6,7 @@ ghost use Rattle.actor.specs.Corner.{InFrame};
 use number::{ahead_of, behind_of};
 
 // The columns (or rows) of a picture that lie in the frame: `count` of them, the first of which is the picture's `skip` and the frame's `start`.
-#[derive(Clone, Copy)]
+#[derive(Clone, Copy, Debug, PartialEq, Eq)]
 pub struct Span {
     pub start: usize,
     pub skip: usize,
@@ -18,16 +18,7 @@ pub struct Span {
 pub(crate) fn count_of(size: usize, skip: usize, limit: usize, start: usize) -> usize
     ensures { result ≡ min (size - skip) (limit - start) }
 {
-    if size <= skip {
-        return 0;
-    }
-    if limit <= start {
-        return 0;
-    }
-    if size - skip < limit - start {
-        return size - skip;
-    }
-    limit - start
+    size.saturating_sub(skip).min(limit.saturating_sub(start))
 }
 
 // The part in a frame of `limit` columns (or rows) of a picture of `size` whose corner is at x.

@@ -2,10 +2,9 @@
 // in a mask byte the first of them stands; `line` is where the plane's row begins in the masks.
 ghost use Rattle.std.specs.Prelude.{◌≡◌, ◌||◌, cond, ◌+◌, ◌-◌, ◌*◌, ◌/◌, ◌%◌, ◌^◌, ◌≤◌, ◌<◌, eqb, length, get_or};
 ghost use Rattle.grid.specs.Grid.{upd, rowed};
-ghost use Rattle.actor.specs.Sizes.{Planes};
 ghost use Rattle.actor.specs.Stamp.{blended};
 
-use crate::mask::window;
+use crate::mask::{Masks, window};
 use cells::{eight, few, plain};
 
 // The first 8 * count pixels of a row. Every eight of them have the same two places in their mask bytes, so the places are found once.
@@ -31,11 +30,9 @@ pub(crate) fn eights(
     let s = x % 8;
     let first = line + x / 8;
     let last = line + (x + 7) / 8;
-    let mut k = 0;
-    while k < count {
+    for k in 0..count {
         let bits = window(masks, first + k, last + k, s);
         eight(frame, picture, w, x + 8 * k, y, from + 8 * k, clear, bits);
-        k += 1;
     }
 }
 
@@ -82,11 +79,8 @@ pub(crate) fn masked_row(
 // A row at any clip level.
 pub(crate) fn stamp_row(
     frame: &mut [u8],
-    masks: &[u8],
+    masks: &Masks,
     picture: &[u8],
-    w: usize,
-    h: usize,
-    n: usize,
     x: usize,
     y: usize,
     from: usize,
@@ -94,19 +88,16 @@ pub(crate) fn stamp_row(
     clear: u8,
     clip: usize,
 )
-    requires in_row { (x + len ≤ w) × (y * w + (x + len) ≤ length frame.old) × (from + len ≤ length picture.now) }
-    requires row_of_planes { Planes (length masks.now) w h n × (y < h) }
-    ensures { frame.new ≡ upd (rowed w x y len (λ k o.
-        blended masks.now w h n clear clip (x + k) y (get_or picture.now (from + k) 0) o)) frame.old }
+    requires in_row { (x + len ≤ masks.now.w) × (y * masks.now.w + (x + len) ≤ length frame.old) × (from + len ≤ length picture.now) }
+    requires in_room { y < masks.now.h }
+    ensures { frame.new ≡ upd (rowed masks.now.w x y len (λ k o.
+        blended masks.now.bytes.now masks.now.w masks.now.h masks.now.n clear clip (x + k) y (get_or picture.now (from + k) 0) o)) frame.old }
 {
-    if clip < 1 {
+    let w = masks.w;
+    if clip < 1 || masks.n < clip {
         plain(frame, picture, w, x, y, from, len, clear);
         return;
     }
-    if n < clip {
-        plain(frame, picture, w, x, y, from, len, clear);
-        return;
-    }
-    let line = ((clip - 1) * h + y) * (w / 8);
-    masked_row(frame, masks, picture, w, x, y, from, line, len, clear);
+    let line = ((clip - 1) * masks.h + y) * (w / 8);
+    masked_row(frame, masks.bytes, picture, w, x, y, from, line, len, clear);
 }

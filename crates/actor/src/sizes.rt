@@ -3,19 +3,24 @@ ghost use Rattle.std.specs.Prelude.{◌≡◌, true, ◌&&◌};
 ghost use Rattle.actor.specs.Sizes.{sizes_fit, picture_fits, mask_bytes, buffers_fit};
 ghost use Rattle.actor.specs.Hidden.{hidden_number};
 ghost use Rattle.actor.specs.Stamp.{stamp_number};
+ghost use Rattle.refusal.specs.Answer.{answer_of};
+
+use refusal::{Reason, Refusal};
 
 // Whether a room's width, height and number of planes are inside the sizes.
+#[tactic(auto, unfolding(crate::specs::Sizes::sizes_fit))]
 pub fn sizes_fit(w: usize, h: usize, n: usize) -> bool
     ensures { result ≡ sizes_fit w h n }
 {
-    (8 <= w) & (w <= 1024) & (w % 8 == 0) & (1 <= h) & (h <= 200) & (n <= 4)
+    8 <= w && w <= 1024 && w % 8 == 0 && 1 <= h && h <= 200 && n <= 4
 }
 
 // Whether an actor picture's width and height are inside the sizes.
+#[tactic(auto, unfolding(crate::specs::Sizes::picture_fits))]
 pub fn picture_fits(width: usize, height: usize) -> bool
     ensures { result ≡ picture_fits width height }
 {
-    (1 <= width) & (width <= 128) & (1 <= height) & (height <= 200)
+    1 <= width && width <= 128 && 1 <= height && height <= 200
 }
 
 // How many bytes the masks of n planes take.
@@ -27,6 +32,7 @@ pub fn mask_bytes(w: usize, h: usize, n: usize) -> usize
 }
 
 // Whether a frame, masks and a picture of these lengths hold what a stamp needs.
+#[tactic(auto, unfolding(crate::specs::Sizes::buffers_fit))]
 pub(crate) fn buffers_fit(
     frame: usize,
     masks: usize,
@@ -40,31 +46,36 @@ pub(crate) fn buffers_fit(
     requires { (sizes_fit w h n && picture_fits width height) ≡ true }
     ensures { result ≡ buffers_fit frame masks picture w h n width height }
 {
-    let masks_need = mask_bytes(w, h, n);
-    (w * h <= frame) & (masks_need <= masks) & (width * height <= picture)
+    w * h <= frame && mask_bytes(w, h, n) <= masks && width * height <= picture
 }
 
-// The number of the hidden-pixel question, by the length of the masks.
-pub(crate) fn hidden_number(masks: usize, w: usize, h: usize, n: usize, x: usize, y: usize) -> u8
-    ensures { result ≡ hidden_number masks w h n x y }
+// Tests the hidden-pixel question, by the length of the masks.
+#[tactic(auto, unfolding(crate::specs::Hidden::hidden_number))]
+pub(crate) fn check_hidden(
+    masks: usize,
+    w: usize,
+    h: usize,
+    n: usize,
+    x: usize,
+    y: usize,
+) -> Result<(), Refusal>
+    ensures { result ≡ answer_of (hidden_number masks w h n x y) }
 {
     if !sizes_fit(w, h, n) {
-        return 3;
+        return Err(Reason::OutOfSize.into());
     }
     if masks < mask_bytes(w, h, n) {
-        return 4;
+        return Err(Reason::BufferShort.into());
     }
-    if x >= w {
-        return 14;
+    if x >= w || y >= h {
+        return Err(Reason::PointOutside.into());
     }
-    if y >= h {
-        return 14;
-    }
-    0
+    Ok(())
 }
 
-// The number of a stamp, by the lengths of its buffers.
-pub(crate) fn stamp_number(
+// Tests a stamp, by the lengths of its buffers.
+#[tactic(auto, unfolding(crate::specs::Stamp::stamp_number))]
+pub(crate) fn check_stamp(
     frame: usize,
     masks: usize,
     picture: usize,
@@ -73,15 +84,14 @@ pub(crate) fn stamp_number(
     n: usize,
     width: usize,
     height: usize,
-) -> u32
-    ensures { result ≡ stamp_number frame masks picture w h n width height }
+) -> Result<(), Refusal>
+    ensures { result ≡ answer_of (stamp_number frame masks picture w h n width height) }
 {
-    let sizes = sizes_fit(w, h, n) & picture_fits(width, height);
-    if !sizes {
-        return 3;
+    if !(sizes_fit(w, h, n) && picture_fits(width, height)) {
+        return Err(Reason::OutOfSize.into());
     }
     if !buffers_fit(frame, masks, picture, w, h, n, width, height) {
-        return 4;
+        return Err(Reason::BufferShort.into());
     }
-    0
+    Ok(())
 }

@@ -1,10 +1,14 @@
 -- The number of a call as one chain of tests, and what it says of the records where none is bad, and of the first bad one. Assumes nothing.
-use Rattle.std.proofs.Common.{Bool, true, false, cond, ◌&&◌, List, [], ◌∷◌, ◌↔◌, ◌≡◌, refl, sym, ap, ◌∙◌, ℕ, zero, suc, ◌*◌, ◌≤◌, ◌<◌, le_of_suc-le-suc, not-suc-le-zero, arith, ltb-false, leb-true, le-ltb, le-leb, eqb-true, eq-eqb, ne_eqb, ltb, leb, eqb, length, get_or}
+use Rattle.std.proofs.Common.{Bool, true, false, cond, ◌&&◌, List, [], ◌∷◌, ◌↔◌, ◌≡◌, refl, sym, ap, ◌∙◌, ℕ, zero, suc, ◌+◌, ◌*◌, ◌≤◌, ◌<◌, le_of_suc-le-suc, not-suc-le-zero, arith, ltb-false, leb-true, le-ltb, le-leb, eqb-true, eq-eqb, ne_eqb, ltb, leb, eqb, length, get_or, drop, Err}
 use borrow.Author.Tests.{eqb-false}
 use Rattle.actor.specs.Sizes.{sizes_fit, mask_bytes}
 use Rattle.actor.proofs.SizeLaws.{none-refused}
 use Rattle.number.proofs.BoolLaws.{both}
+use Rattle.refusal.specs.Answer.{answer_of}
+use Rattle.refusal.proofs.AnswerLaws.{refused}
+use Rattle.std.proofs.lemmas.List.{at_drop_more}
 use Rattle.cast.specs.declared.Actor.{Actor}
+use Rattle.cast.specs.Order.{none}
 use Rattle.cast.specs.Sort.{Perm, empty, under, swap, chain}
 use Rattle.cast.specs.Call.{record_number, first_bad, frame_number, cast_number}
 
@@ -87,6 +91,18 @@ module _ (pictures : ℕ) where
       back : (l : List Actor) → ((i : ℕ) (none : Actor) → i < length l → record_number pictures (get_or l i none) ≡ 0) → first_bad pictures l ≡ 0
       back [] f = refl
       back (a ∷ l) f = right-more a l (f 0 a (omega arith)) ∙ back l (λ i none lt. f (suc i) none (omega arith))
+
+  -- a round of the test, at the record at i
+  pub right_turn : (l : List Actor) (i : ℕ) → i < length l → record_number pictures (get_or l i none) ≡ 0
+      → first_bad pictures (drop (i + 1) l) ≡ first_bad pictures (drop i l)
+  right_turn l i within is = sym (at_drop_more (first_bad pictures) l i none within ∙ right-more (get_or l i none) (drop (i + 1) l) is)
+
+  pub bad_turn : (l : List Actor) (i k : ℕ) → i < length l → Err k ≡ answer_of (record_number pictures (get_or l i none))
+      → first_bad pictures (drop i l) ≡ k
+  unfolding first_bad
+  bad_turn l i k within e =
+      let (is, some) = refused k (record_number pictures (get_or l i none)) e in
+      at_drop_more (first_bad pictures) l i none within ∙ rw (ne_eqb _ _ some) is
 
   -- the same records in another order
   pub perm_right : {a b : List Actor} → Perm a b → first_bad pictures b ≡ 0 → first_bad pictures a ≡ 0

@@ -1,9 +1,8 @@
 -- What a call with a whole cast answers, and what it leaves (change request 7). Sizes and the single stamp are crate actor's.
-use Rattle.std.specs.Prelude.{cond, ◌&&◌, List, [], ◌∷◌, ℕ, zero, suc, ◌+◌, ◌*◌, leb, ltb, eqb, length, get_or, drop}
+use Rattle.std.specs.Prelude.{cond, ◌&&◌, List, [], ◌∷◌, ℕ, ◌+◌, ◌*◌, leb, ltb, eqb, length, drop}
 use Rattle.actor.specs.Sizes.{sizes_fit, picture_fits, mask_bytes}
 use Rattle.actor.specs.Stamp.{stamp_frame}
 use Rattle.cast.specs.declared.Actor.{Actor}
-use Rattle.cast.specs.Order.{none}
 use Rattle.cast.specs.Sort.{sort_of}
 
 -- "its size (3) before its buffer (4)": a record's own number, with a buffer of so many bytes of pictures
@@ -43,22 +42,3 @@ cast_list number l = cond (eqb number 0) (sort_of l) l
 -- and the frame: stamped with the list in that order
 unfoldable pub cast_frame : ℕ → (masks pictures : List ℕ) (w h n clear : ℕ) → List Actor → List ℕ → List ℕ
 cast_frame number masks pictures w h n clear l frame = cond (eqb number 0) (stamp_all masks pictures w h n clear (sort_of l) frame) frame
-
--- ---- for the proofs: no public promise rests on what follows
-
--- k records of a list, from place i on
-unfoldable pub held_from : List Actor → (i k : ℕ) → List Actor
-held_from l i zero = []
-held_from l i (suc k) = get_or l i none ∷ held_from l (i + 1) k
-
--- the number of a call by its count of records, frame and planes
-unfoldable pub first_number : (count frame masks w h n : ℕ) → ℕ
-first_number count frame masks w h n = cond (ltb 32 count) 18 (frame_number frame masks w h n)
-
--- a number found, or else the next record's own
-unfoldable pub judged_of : (number pictures : ℕ) → Actor → ℕ
-judged_of number pictures a = cond (eqb number 0) (record_number pictures a) number
-
-unfoldable pub judged_all : (pictures number : ℕ) → List Actor → ℕ
-judged_all pictures number [] = number
-judged_all pictures number (a ∷ l) = judged_all pictures (judged_of number pictures a) l

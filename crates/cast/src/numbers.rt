@@ -1,56 +1,69 @@
-// The numbers of a call, before anything is moved or painted: 18, 3 and 4 (change request 7).
+// The tests of a call, before anything is moved or painted: 18, 3 and 4 (change request 7).
 ghost use Rattle.std.specs.Prelude.{◌≡◌};
-ghost use Rattle.cast.specs.Call.{record_number, frame_number, first_number, judged_of};
+ghost use Rattle.cast.specs.Call.{record_number, first_bad, frame_number, cast_number};
+ghost use Rattle.refusal.specs.Answer.{answer_of};
 
 use crate::Actor;
 use actor::sizes::{mask_bytes, picture_fits, sizes_fit};
+use refusal::{Reason, Refusal};
 
-// A record's own number: its size before its buffer.
-pub fn record_number(pictures: usize, a: Actor) -> u32
-    ensures { result ≡ record_number pictures a }
+// Tests a record: its size before its buffer.
+#[tactic(auto, unfolding(crate::specs::Call::record_number))]
+pub fn check_record(a: Actor, pictures: usize) -> Result<(), Refusal>
+    ensures { result ≡ answer_of (record_number pictures a) }
 {
     let width = a.width as usize;
     let height = a.height as usize;
     if !picture_fits(width, height) {
-        return 3;
+        return Err(Reason::OutOfSize.into());
     }
     if pictures < a.start as usize + width * height {
-        return 4;
+        return Err(Reason::BufferShort.into());
     }
-    0
+    Ok(())
 }
 
-// The number found already, or else a record's own.
-pub fn judged(number: u32, pictures: usize, a: Actor) -> u32
-    ensures { result ≡ judged_of number pictures a }
+// Tests the records in the order of the list: the first bad one refuses the call.
+#[tactic(auto, using(crate::proofs::NumberLaws::bad_turn))]
+pub fn check_records(list: &[Actor], pictures: usize) -> Result<(), Refusal>
+    ensures { result ≡ answer_of (first_bad pictures list.now) }
 {
-    if number != 0 {
-        return number;
+    for a in list {
+        check_record(*a, pictures)?;
     }
-    record_number(pictures, a)
+    Ok(())
 }
 
-// The number of a frame and the masks of n planes, by their lengths.
-pub fn frame_number(frame: usize, masks: usize, w: usize, h: usize, n: usize) -> u32
-    ensures { result ≡ frame_number frame masks w h n }
+// Tests a frame and the masks of n planes, by their lengths.
+#[tactic(auto, unfolding(crate::specs::Call::frame_number))]
+pub fn check_frame(frame: usize, masks: usize, w: usize, h: usize, n: usize) -> Result<(), Refusal>
+    ensures { result ≡ answer_of (frame_number frame masks w h n) }
 {
     if !sizes_fit(w, h, n) {
-        return 3;
+        return Err(Reason::OutOfSize.into());
     }
-    let need = mask_bytes(w, h, n);
-    if (w * h <= frame) & (need <= masks) {
-        return 0;
+    if frame < w * h || masks < mask_bytes(w, h, n) {
+        return Err(Reason::BufferShort.into());
     }
-    4
+    Ok(())
 }
 
-// The number of a call by its count of records, its frame and its planes.
-#[tactic(auto, unfolding(crate::specs::Call::first_number))]
-pub fn first_number(count: usize, frame: usize, masks: usize, w: u32, h: u32, n: u32) -> u32
-    ensures { result ≡ first_number count frame masks w h n }
+// Tests a call: its count of records, its frame and its planes, and then each record.
+#[tactic(auto, unfolding(crate::specs::Call::cast_number))]
+pub fn check_cast(
+    list: &[Actor],
+    frame: usize,
+    masks: usize,
+    pictures: usize,
+    w: u32,
+    h: u32,
+    n: u32,
+) -> Result<(), Refusal>
+    ensures { result ≡ answer_of (cast_number list.now frame masks pictures w h n) }
 {
-    if 32 < count {
-        return 18;
+    if 32 < list.len() {
+        return Err(Reason::CastTooLarge.into());
     }
-    frame_number(frame, masks, w as usize, h as usize, n as usize)
+    check_frame(frame, masks, w as usize, h as usize, n as usize)?;
+    check_records(list, pictures)
 }

@@ -1,10 +1,10 @@
 -- Computed examples: the starts of a payload with five records.
-use Rattle.std.proofs.Common.{◌≡◌, refl, true, false, List, [], ◌∷◌, ℕ, replicate}
+use Rattle.std.proofs.Common.{◌≡◌, refl, true, false, List, [], ◌∷◌, ℕ, replicate, Result, Ok, Err}
 use Rattle.number.specs.Number.{le32_bytes}
 use Rattle.limbs.specs.Limb.{limb_at, put_limb, each_limb, all, place_right, limb_right, limbs_right}
 use Rattle.limbs.proofs.Examples.{commands, lent, still, bytes, bent}
 use Rattle.costume.specs.declared.Started.{Started}
-use Rattle.costume.specs.declared.Started.TheVariants.{Set, Undefined, Refused}
+use Rattle.costume.specs.declared.Started.TheVariants.{Set, Undefined}
 use Rattle.costume.specs.Record.{entry_at, entry_place, entry_of, record_right, begun_limb}
 use Rattle.costume.specs.Start.{numbers_right, offset_right, defined, start_number, started_of, start_bytes}
 
@@ -19,10 +19,11 @@ payload =
     ∷ commands
 
 -- the answers of a start, by chore and direction: a record, offset 0, offset 3, a zero mask, an idling record, a number past the count
-answer : (chore direction : ℕ) → Started
+answer : (chore direction : ℕ) → Result Started ℕ
 answer chore direction = started_of payload still 0 5 30 chore direction
 
-answers : answer 0 0 ∷ answer 0 1 ∷ answer 0 2 ∷ answer 0 3 ∷ answer 1 0 ∷ answer 1 1 ∷ [] ≡ Set ∷ Undefined ∷ Refused 15 ∷ Undefined ∷ Set ∷ Refused 15 ∷ []
+answers : answer 0 0 ∷ answer 0 1 ∷ answer 0 2 ∷ answer 0 3 ∷ answer 1 0 ∷ answer 1 1 ∷ []
+    ≡ Ok Set ∷ Ok Undefined ∷ Err 15 ∷ Ok Undefined ∷ Ok Set ∷ Err 15 ∷ []
 unfolding answer still lent payload commands started_of start_number numbers_right limbs_right all limb_right place_right limb_at offset_right record_right
     entry_of entry_place entry_at defined
 answers = refl
@@ -33,7 +34,7 @@ refusals : started_of payload (replicate 255 0) 0 5 5 244 4 ∷ started_of paylo
     0 0 30 0 0
     ∷ started_of payload still 0 15 30 0 0 ∷ started_of payload still 0 5 5 0 0 ∷ started_of payload still 0 5 36 0 1 ∷ started_of payload still 0 5 35 0 1 ∷
     started_of payload still 0 5 31 0 0 ∷ []
-    ≡ Refused 4 ∷ Refused 15 ∷ Refused 15 ∷ Refused 15 ∷ Refused 15 ∷ Refused 15 ∷ Refused 15 ∷ Undefined ∷ Refused 15 ∷ []
+    ≡ Err 4 ∷ Err 15 ∷ Err 15 ∷ Err 15 ∷ Err 15 ∷ Err 15 ∷ Err 15 ∷ Ok Undefined ∷ Err 15 ∷ []
 unfolding still lent payload commands started_of start_number numbers_right limbs_right all limb_right place_right limb_at offset_right record_right entry_of
     entry_place entry_at defined
 refusals = refl

@@ -1,5 +1,5 @@
 -- What an accepted start leaves, as a reader of document 01 asks for it: limb by limb, the bytes beside them, and that the next tick is accepted.
-use Rattle.std.proofs.Common.{◌≡◌, refl, sym, ap, ◌∙◌, Bool, true, false, cond, List, ℕ, ◌+◌, ◌*◌, ◌-◌, ◌<◌, ◌≤◌, le-ltb, eqb-true, eqb, length, get_or}
+use Rattle.std.proofs.Common.{◌≡◌, refl, sym, ap, ◌∙◌, Bool, true, false, cond, List, ℕ, ◌+◌, ◌*◌, ◌-◌, ◌<◌, ◌≤◌, le-ltb, eqb-true, ne_eqb, eqb, length, get_or, Ok, Err}
 use Rattle.limbs.specs.declared.Limb.{Limb}
 use Rattle.limbs.specs.Limb.{limb_at, each_limb, limb_right, limbs_right}
 use Rattle.limbs.specs.Tick.{stream, tick_number}
@@ -8,11 +8,11 @@ use Rattle.limbs.proofs.AfterLaws.{Bytes, Small, limb_small, each-limb, each_unu
 use Rattle.limbs.proofs.Theorems.{limbs_put}
 use Rattle.costume.specs.declared.Entry.{Entry}
 use Rattle.costume.specs.declared.Entry.TheVariants.{Unnamed, Cut, Idle, Window}
-use Rattle.costume.specs.declared.Started.TheVariants.{Set, Undefined, Refused}
+use Rattle.costume.specs.declared.Started.TheVariants.{Set, Undefined}
 use Rattle.costume.specs.Record.{entry_of, begun_limb}
 use Rattle.costume.specs.Start.{offset_at, defined, start_number, started_of, start_bytes, number}
 use Rattle.costume.proofs.RecordLaws.{entry_shape, begun_right, begun_small, record_entries}
-use Rattle.costume.proofs.StartLaws.{start-refused, start_undefined, start-accepted, Starts, defined-some, offset_record_right}
+use Rattle.costume.proofs.StartLaws.{start-accepted, Starts, defined-some, offset_record_right}
 
 -- ---- an accepted start of an animation that is defined
 module _ (s l : List ℕ) (t count v chore direction : ℕ) (ok : start_number s l t count v chore direction ≡ 0) where
@@ -21,7 +21,7 @@ module _ (s l : List ℕ) (t count v chore direction : ℕ) (ok : start_number s
 
   module _ (is : defined s o ≡ true) where
     starts : Starts s l t count v chore direction
-    starts = start-accepted s l t count v chore direction 0 (sym ok) refl
+    starts = start-accepted s l t count v chore direction ok
 
     abbrev f : ℕ → Limb → Limb
     f i = begun_limb (entry_of s (o - 6) i)
@@ -81,17 +81,19 @@ module _ (s l : List ℕ) (t count v chore direction : ℕ) where
       let n = start_number s l t count v chore direction in
       go n (eqb n 0) refl (defined s (offset_at s t chore direction))
     where
-      go : (n : ℕ) (z : Bool) → eqb n 0 ≡ z → (d : Bool) → number (cond z (cond d Set Undefined) (Refused n)) ≡ n
+      go : (n : ℕ) (z : Bool) → eqb n 0 ≡ z → (d : Bool) → number (cond z (cond d (Ok Set) (Ok Undefined)) (Err n)) ≡ n
       go n true e true = sym (eqb-true n 0 e)
       go n true e false = sym (eqb-true n 0 e)
       go n false e d = refl
 
   pub start_unchanged : (start_number s l t count v chore direction ≡ 0 → ⊥) → start_bytes s l t count v chore direction ≡ l
-  start_unchanged h = sym (start-refused s l t count v chore direction (start_number s l t count v chore direction) refl h).1.1
+  unfolding start_bytes
+  start_unchanged h = rw (ne_eqb _ _ h)
 
   pub undefined_unchanged : start_number s l t count v chore direction ≡ 0 → defined s (offset_at s t chore direction) ≡ false
       → start_bytes s l t count v chore direction ≡ l
-  undefined_unchanged h d = sym (start_undefined s l t count v chore direction 0 (sym h) refl (offset_at s t chore direction) refl (sym d)).1.1
+  unfolding start_bytes
+  undefined_unchanged h d = rw (h, d)
 
 -- the stopped byte stays at a start, on idling too
 pub begun_stopped : (e : Entry) (x : Limb) → (begun_limb e x).stopped ≡ x.stopped

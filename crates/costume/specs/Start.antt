@@ -1,10 +1,10 @@
 -- The start of an animation (document 01, "Actors, points, limbs"). The offset table has count u16 little-endian entries from payload byte t.
-use Rattle.std.specs.Prelude.{Bool, ◌&&◌, ◌||◌, not, cond, List, ℕ, ◌+◌, ◌-◌, ◌*◌, length, ltb, leb, eqb}
+use Rattle.std.specs.Prelude.{Bool, ◌&&◌, ◌||◌, not, cond, List, ℕ, ◌+◌, ◌-◌, ◌*◌, length, ltb, leb, eqb, Result, Ok, Err}
 use Rattle.number.specs.Number.{le16}
 use Rattle.limbs.specs.Limb.{limbs_right, each_limb}
 use Rattle.limbs.specs.Tick.{command_right, stream}
 use Rattle.costume.specs.declared.Started.{Started}
-use Rattle.costume.specs.declared.Started.TheVariants.{Set, Undefined, Refused}
+use Rattle.costume.specs.declared.Started.TheVariants.{Set, Undefined}
 use Rattle.costume.specs.Record.{mask_of, entry_of, record_right, begun_limb}
 
 -- the number of the record, and the offset that the table stores for it
@@ -42,11 +42,11 @@ start_number s l t count v chore direction =
     15)
 
 -- the answer: set, not defined, or refused
-unfoldable pub started_of : (s l : List ℕ) → (t count v chore direction : ℕ) → Started
+unfoldable pub started_of : (s l : List ℕ) → (t count v chore direction : ℕ) → Result Started ℕ
 started_of s l t count v chore direction =
     cond (eqb (start_number s l t count v chore direction) 0)
-    (cond (defined s (offset_at s t chore direction)) Set Undefined)
-    (Refused (start_number s l t count v chore direction))
+    (cond (defined s (offset_at s t chore direction)) (Ok Set) (Ok Undefined))
+    (Err (start_number s l t count v chore direction))
 
 -- the lent bytes after it: each named limb is set by its entry; as they were where it is refused or not defined
 unfoldable pub start_bytes : (s l : List ℕ) → (t count v chore direction : ℕ) → List ℕ
@@ -56,13 +56,12 @@ start_bytes s l t count v chore direction =
     l
 
 -- document 01's number for each case of an answer: "not defined" is accepted
-abbrev pub number : Started → ℕ
-number Set = 0
-number Undefined = 0
-number (Refused n) = n
+abbrev pub number : Result Started ℕ → ℕ
+number (Err n) = n
+number (Ok a) = 0
 
 -- and its value: 1 where the limbs are set, else 0
-abbrev pub value : Started → ℕ
-value Set = 1
-value Undefined = 0
-value (Refused n) = 0
+abbrev pub value : Result Started ℕ → ℕ
+value (Err n) = 0
+value (Ok Set) = 1
+value (Ok Undefined) = 0

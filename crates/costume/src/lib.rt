@@ -9,10 +9,11 @@ ghost use Rattle.std.specs.Prelude.{◌≡◌};
 ghost use Rattle.costume.specs.Start.{start_number, started_of, start_bytes, number};
 
 use crate::record::begin_limbs;
-use crate::table::{is_defined, offset_at, start_number};
+use crate::table::{check_start, is_defined, offset_at};
+use refusal::Refusal;
 
 // What a record says of one limb.
-#[derive(Clone, Copy)]
+#[derive(Clone, Copy, Debug, PartialEq, Eq)]
 pub enum Entry {
     // The mask does not name the limb.
     Unnamed,
@@ -23,18 +24,17 @@ pub enum Entry {
     Window { start: usize, len: u8, noloop: u8 },
 }
 
-// What a start answers.
-#[derive(Clone, Copy)]
+// What an accepted start does.
+#[derive(Clone, Copy, Debug, PartialEq, Eq)]
 pub enum Started {
     // The limbs that the record names are set.
     Set,
     // The animation is not defined, which is accepted and changes nothing.
     Undefined,
-    // Document 01's number.
-    Refused(u8),
 }
 
 // Starts the animation of a chore for a facing: the table of count offsets stands at payload byte table.
+#[tactic(auto, unfolding(crate::specs::Start::started_of, crate::specs::Start::start_bytes))]
 pub fn start(
     payload: &[u8],
     limbs: &mut [u8],
@@ -43,12 +43,12 @@ pub fn start(
     command: u32,
     chore: u32,
     direction: u32,
-) -> Started
+) -> Result<Started, Refusal>
     ensures answer { result ≡ started_of payload.now limbs.old table count command chore direction }
     ensures number { number result ≡ start_number payload.now limbs.old table count command chore direction }
     ensures bytes { limbs.new ≡ start_bytes payload.now limbs.old table count command chore direction }
 {
-    let refusal = start_number(
+    check_start(
         payload,
         &limbs[..],
         table,
@@ -56,14 +56,11 @@ pub fn start(
         command as usize,
         chore,
         direction,
-    );
-    if refusal != 0 {
-        return Started::Refused(refusal);
-    }
+    )?;
     let offset = offset_at(payload, table, chore, direction);
     if !is_defined(payload, offset) {
-        return Started::Undefined;
+        return Ok(Started::Undefined);
     }
     begin_limbs(payload, offset - 6, limbs);
-    Started::Set
+    Ok(Started::Set)
 }

@@ -6,9 +6,10 @@ ghost use Rattle.costume.specs.Record.{entry_at, size_of, entry_of, entry_right,
 use crate::Entry;
 use limbs::Limb;
 use limbs::bytes::{limb_at, put_limb, window_right};
-use number::{read_le16, wide};
+use number::read_le16;
 
 // Limb i's entry of a record with this mask, where it starts at p.
+#[tactic(auto, unfolding(crate::specs::Record::entry_at))]
 fn entry_at(payload: &[u8], mask: usize, i: usize, p: usize) -> Entry
     requires { (i < 16) × (p < 2 ^ 63) }
     ensures { result ≡ entry_at payload.now mask i p }
@@ -23,10 +24,9 @@ fn entry_at(payload: &[u8], mask: usize, i: usize, p: usize) -> Entry
     if start == 0xFFFF {
         return Entry::Idle;
     }
-    if payload.len() < p + 3 {
+    let Some(&last) = payload.get(p + 2) else {
         return Entry::Cut;
-    }
-    let last = payload[p + 2];
+    };
     Entry::Window {
         start,
         len: last % 128 + 1,
@@ -39,14 +39,9 @@ fn entry_size(entry: Entry) -> usize
     ensures { (result ≡ size_of entry) × (result ≤ 3) }
 {
     match entry {
-        Entry::Unnamed => 0,
-        Entry::Cut => 0,
+        Entry::Unnamed | Entry::Cut => 0,
         Entry::Idle => 2,
-        Entry::Window {
-            start: _,
-            len: _,
-            noloop: _,
-        } => 3,
+        Entry::Window { .. } => 3,
     }
 }
 
@@ -55,14 +50,9 @@ fn entry_right(entry: Entry, n: usize) -> bool
     ensures { result ≡ entry_right n entry }
 {
     match entry {
-        Entry::Unnamed => true,
+        Entry::Unnamed | Entry::Idle => true,
         Entry::Cut => false,
-        Entry::Idle => true,
-        Entry::Window {
-            start,
-            len,
-            noloop: _,
-        } => window_right(start, wide(len), n),
+        Entry::Window { start, len, .. } => window_right(start, usize::from(len), n),
     }
 }
 
@@ -76,14 +66,12 @@ pub(crate) fn record_right(payload: &[u8], r: usize, n: usize) -> bool
     }
     let mask = read_le16(payload, r);
     let mut p = r + 2;
-    let mut i = 0;
-    while i < 16 {
+    for i in 0..16 {
         let entry = entry_at(payload, mask, i, p);
         if !entry_right(entry, n) {
             return false;
         }
         p += entry_size(entry);
-        i += 1;
     }
     true
 }
@@ -105,12 +93,12 @@ fn reset(limb: Limb, active: u8, noloop: u8, len: u8, start: usize) -> Limb
 }
 
 // What an entry makes of its limb.
+#[tactic(auto, unfolding(crate::specs::Record::begun_limb))]
 fn begin(entry: Entry, limb: Limb) -> Limb
     ensures { result ≡ begun_limb entry limb }
 {
     match entry {
-        Entry::Unnamed => limb,
-        Entry::Cut => limb,
+        Entry::Unnamed | Entry::Cut => limb,
         Entry::Idle => reset(limb, 0, 0, 0, 0),
         Entry::Window { start, len, noloop } => reset(limb, 1, noloop, len, start),
     }
@@ -123,12 +111,10 @@ pub(crate) fn begin_limbs(payload: &[u8], r: usize, limbs: &mut [u8])
 {
     let mask = read_le16(payload, r);
     let mut p = r + 2;
-    let mut i = 0;
-    while i < 16 {
+    for i in 0..16 {
         let entry = entry_at(payload, mask, i, p);
         let limb = limb_at(&limbs[..], i);
         put_limb(limbs, i, begin(entry, limb));
         p += entry_size(entry);
-        i += 1;
     }
 }

@@ -1,26 +1,23 @@
 // From the numbers of a call to its record: the offset table, and every test that a start makes before it writes.
 ghost use Rattle.std.specs.Prelude.{◌≡◌, false, ◌+◌, ◌-◌, ◌*◌, ◌<◌, ◌≤◌, length};
 ghost use Rattle.costume.specs.Start.{no_record, offset_at, numbers_right, offset_right, defined, start_number};
+ghost use Rattle.refusal.specs.Answer.{answer_of};
 
 use crate::record::record_right;
 use limbs::bytes::limbs_right;
 use limbs::ticking::command_right;
 use number::read_le16;
+use refusal::{Reason, Refusal};
 
 // Whether chore and direction name a record of a table that lies in the payload.
+#[tactic(auto, unfolding(crate::specs::Start::numbers_right))]
 fn numbers_right(payload: &[u8], table: u32, count: u32, chore: u32, direction: u32) -> bool
     ensures { result ≡ numbers_right payload.now table count chore direction }
 {
-    if 243 < chore {
-        return false;
-    }
-    if 3 < direction {
-        return false;
-    }
-    if count <= 4 * chore + direction {
-        return false;
-    }
-    (table as usize) + 2 * (count as usize) <= payload.len()
+    chore <= 243
+        && direction <= 3
+        && 4 * chore + direction < count
+        && (table as usize) + 2 * (count as usize) <= payload.len()
 }
 
 // The offset that the table stores for the record.
@@ -33,24 +30,17 @@ pub(crate) fn offset_at(payload: &[u8], table: u32, chore: u32, direction: u32) 
 }
 
 // Whether a stored offset stands for no record or for one that is right.
+#[tactic(auto, unfolding(crate::specs::Start::offset_right))]
 fn offset_right(payload: &[u8], offset: usize, n: usize) -> bool
     requires { offset < 65536 }
     ensures { result ≡ offset_right payload.now offset n }
 {
-    if offset == 0 {
-        return true;
-    }
-    if offset == 0xFFFF {
-        return true;
-    }
-    if offset < 6 {
-        return false;
-    }
-    record_right(payload, offset - 6, n)
+    matches!(offset, 0 | 0xFFFF) || (6 <= offset && record_right(payload, offset - 6, n))
 }
 
-// The number of a start, before any byte is written.
-pub(crate) fn start_number(
+// Tests a start, before any byte is written.
+#[tactic(auto, using(crate::proofs::StartLaws::test_laws), unfolding(crate::specs::Start::start_number))]
+pub(crate) fn check_start(
     payload: &[u8],
     limbs: &[u8],
     table: u32,
@@ -58,39 +48,28 @@ pub(crate) fn start_number(
     command: usize,
     chore: u32,
     direction: u32,
-) -> u8
-    ensures { result ≡ start_number payload.now limbs.now table count command chore direction }
+) -> Result<(), Refusal>
+    ensures { result ≡ answer_of (start_number payload.now limbs.now table count command chore direction) }
 {
     if limbs.len() < 256 {
-        return 4;
+        return Err(Reason::BufferShort.into());
     }
-    if !numbers_right(payload, table, count, chore, direction) {
-        return 15;
-    }
-    if !command_right(payload, command) {
-        return 15;
-    }
-    let n = payload.len() - (command - 6);
-    if !limbs_right(limbs, n) {
-        return 15;
+    if !numbers_right(payload, table, count, chore, direction) || !command_right(payload, command) {
+        return Err(Reason::AnimationWrong.into());
     }
     let offset = offset_at(payload, table, chore, direction);
-    if !offset_right(payload, offset, n) {
-        return 15;
+    let n = payload.len() - (command - 6);
+    if !limbs_right(limbs, n) || !offset_right(payload, offset, n) {
+        return Err(Reason::AnimationWrong.into());
     }
-    0
+    Ok(())
 }
 
 // Whether the animation at a right offset is defined.
+#[tactic(auto, unfolding(crate::specs::Start::defined))]
 pub(crate) fn is_defined(payload: &[u8], offset: usize) -> bool
     requires { no_record offset ≡ false → (6 ≤ offset) × (offset - 6 + 2 ≤ length payload.now) }
     ensures { result ≡ defined payload.now offset }
 {
-    if offset == 0 {
-        return false;
-    }
-    if offset == 0xFFFF {
-        return false;
-    }
-    read_le16(payload, offset - 6) != 0
+    !matches!(offset, 0 | 0xFFFF) && read_le16(payload, offset - 6) != 0
 }

@@ -1,15 +1,13 @@
 -- Laws of the question whether a limb draws.
-use Rattle.std.proofs.Common.{◌≡◌, refl, sym, ap, ◌∙◌, Bool, true, false, ◌&&◌, not, cond, List, ℕ, ◌+◌, ◌<◌, ◌≤◌, arith, lt-ltb, le-ltb, le-leb, leb, eqb, length}
+use Rattle.std.proofs.Common.{◌≡◌, refl, Bool, true, false, ◌&&◌, not, cond, List, ℕ, ◌+◌, ◌<◌, arith, le-leb, leb, eqb, Some, None, Ok, get_or, Fits, w8}
 use mathlib.Core.Bool.{and-false, and-true}
 use mathlib.Core.Logic.{by_cases}
 use native.Mathlib.Decide.{dec_lt}
 use borrow.Author.Tests.{lt-leb}
 use Rattle.limbs.specs.declared.Limb.{Limb}
-use Rattle.limbs.specs.declared.Drawn.{Drawn}
-use Rattle.limbs.specs.declared.Drawn.TheVariants.{Refused, Nothing, Picture}
-use Rattle.limbs.specs.Limb.{flag, limb_at, place_right, limb_right, places_right, limbs_right, draws, draws_number, drawn_of, number}
+use Rattle.limbs.specs.Limb.{flag, limb_at, place_right, limb_right, places_right, limbs_right, draws, number}
 use Rattle.limbs.proofs.LimbLaws.{all_same}
-use Rattle.limbs.proofs.AfterLaws.{Bytes, limb_small}
+use Rattle.limbs.proofs.AfterLaws.{limb_small}
 
 -- ---- without a stream
 
@@ -24,47 +22,21 @@ place-right x h = go (eqb x.active 0) refl
         by_cases (dec_lt 128 x.len) (λ a. rw (e, lt-leb x.len 128 a, and-false (leb 1 x.len)))
         (λ a. rw (e, le-leb (x.start + x.len) 4294967423 (omega arith), and-true))
 
-places-right : (l : List ℕ) → Bytes l → limbs_right 4294967423 l ≡ places_right l
+pub without_stream : (l : List ℕ) → ((j : ℕ) → Fits w8 (get_or l j 0)) → limbs_right 4294967423 l ≡ places_right l
 unfolding limbs_right places_right
-places-right l b =
-    all_same 16 (λ i. limb_right 4294967423 (limb_at l i)) (λ i. place_right (limb_at l i)) (λ i. place-right (limb_at l i) (limb_small l i b).start)
+without_stream l b =
+    all_same 16 (λ i. limb_right 4294967423 (limb_at l i)) (λ i. place_right (limb_at l i))
+    (λ i. place-right (limb_at l i) (limb_small l i (λ j. (b j).fits)).start)
 
--- ---- the answer, from the tests that the code makes
+-- ---- the answer is accepted
 
-draws-zero : (x : Limb) → number (draws x) ≡ 0
+pub draws_zero : (x : Limb) → number (draws x) ≡ 0
 unfolding draws
-draws-zero x = go (flag x.active && not (flag x.stopped) && flag x.shows)
+draws_zero x = go (flag x.active && not (flag x.stopped) && flag x.shows)
   where
-    go : (t : Bool) → number (cond t (Picture x.picture) Nothing) ≡ 0
+    go : (t : Bool) → number (cond t (Ok (Some x.picture)) (Ok None)) ≡ 0
     go true = refl
     go false = refl
 
-module _ (l : List ℕ) (i : ℕ) where
-  pub draws-short : length l < 256 → (Refused 4 ≡ drawn_of l i) × (4 ≡ draws_number l i)
-  unfolding drawn_of draws_number
-  draws-short h = let e = lt-ltb _ _ h in (rw e, rw e)
-
-  module _ (h : 256 ≤ length l) where
-    pub draws-none : 15 < i → (Refused 15 ≡ drawn_of l i) × (15 ≡ draws_number l i)
-    unfolding drawn_of draws_number
-    draws-none g = let e = le-ltb _ _ h in let f = lt-leb _ _ g in (rw (e, f), rw (e, f))
-
-    module _ (bytes : Bytes l) (g : i ≤ 15) (right : Bool) (is : right ≡ limbs_right 4294967423 l) where
-      tested : right ≡ places_right l
-      tested = is ∙ places-right l bytes
-
-      pub draws_wrong : right ≡ false → (Refused 15 ≡ drawn_of l i) × (15 ≡ draws_number l i)
-      unfolding drawn_of draws_number
-      draws_wrong off =
-          let e = le-ltb _ _ h in
-          let f = le-leb _ _ g in
-          let p = sym tested ∙ off in
-          (rw (e, f, p), rw (e, f, p))
-
-      pub draws-one : right ≡ true → (x : Limb) (r : Drawn) → x ≡ limb_at l i → r ≡ draws x → (r ≡ drawn_of l i) × (number r ≡ draws_number l i)
-      unfolding drawn_of draws_number
-      draws-one on x r a b =
-          let e = le-ltb _ _ h in
-          let f = le-leb _ _ g in
-          let p = sym tested ∙ on in
-          (rw (e, f, p) (b ∙ ap draws a), rw (e, f, p) (ap number b ∙ draws-zero x))
+-- what the call's proof cites
+pub ruleset draws_laws = (without_stream, draws_zero)

@@ -1,9 +1,7 @@
 -- Computed examples: limbs that are ticked and asked. Crate costume's examples start them.
-use Rattle.std.proofs.Common.{◌≡◌, refl, List, [], ◌∷◌, ◌++◌, ℕ, zero, suc, replicate}
+use Rattle.std.proofs.Common.{◌≡◌, refl, List, [], ◌∷◌, ◌++◌, ℕ, zero, suc, replicate, Option, Some, None, Result, Ok, Err}
 use Rattle.number.specs.Number.{le32_bytes}
 use Rattle.limbs.specs.declared.Limb.{Limb}
-use Rattle.limbs.specs.declared.Drawn.{Drawn}
-use Rattle.limbs.specs.declared.Drawn.TheVariants.{Refused, Nothing, Picture}
 use Rattle.limbs.specs.Limb.{limb_at, put_limb, each_limb, all, place_right, limb_right, places_right, limbs_right, draws, draws_number, drawn_of}
 use Rattle.limbs.specs.Tick.{stream, obeyed, moved_on, ticked_limb, tick_number, tick_bytes}
 
@@ -61,26 +59,26 @@ unfolding run limb payload commands ticked_limb obeyed moved_on
 staying = refl
 
 -- whether it draws: with a picture, stopped, without a picture yet
-drawing : draws (limb 0 0 1 18 3 0 1) ∷ draws (limb 1 0 1 18 3 0 2) ∷ draws (limb 0 0 0 0 3 0 0) ∷ [] ≡ Picture 18 ∷ Nothing ∷ Nothing ∷ []
+drawing : draws (limb 0 0 1 18 3 0 1) ∷ draws (limb 1 0 1 18 3 0 2) ∷ draws (limb 0 0 0 0 3 0 0) ∷ [] ≡ Ok (Some 18) ∷ Ok None ∷ Ok None ∷ []
 unfolding limb draws
 drawing = refl
 
 -- an idle limb, no such limb, too few bytes
-asking : drawn_of still 1 ∷ drawn_of still 16 ∷ drawn_of (replicate 255 0) 16 ∷ [] ≡ Nothing ∷ Refused 15 ∷ Refused 4 ∷ []
+asking : drawn_of still 1 ∷ drawn_of still 16 ∷ drawn_of (replicate 255 0) 16 ∷ [] ≡ Ok None ∷ Err 15 ∷ Err 4 ∷ []
 unfolding still lent drawn_of draws_number draws places_right all place_right limb_at
 asking = refl
 
 -- limb 0 with the length, start and place
-placed : (len start place : ℕ) → Drawn
+placed : (len start place : ℕ) → Result (Option ℕ) ℕ
 placed n from at = drawn_of (lent (bytes 1 0 0 1 18 n from at) (replicate 16 0)) 0
 
 -- the length 0, 129, 1 and 128; the place before the window, at its last byte and past it
 places : placed 0 5 5 ∷ placed 129 5 5 ∷ placed 1 5 5 ∷ placed 128 5 5 ∷ placed 3 5 4 ∷ placed 3 5 7 ∷ placed 3 5 8 ∷ []
-    ≡ Refused 15 ∷ Refused 15 ∷ Picture 18 ∷ Picture 18 ∷ Refused 15 ∷ Picture 18 ∷ Refused 15 ∷ []
+    ≡ Err 15 ∷ Err 15 ∷ Ok (Some 18) ∷ Ok (Some 18) ∷ Err 15 ∷ Ok (Some 18) ∷ Err 15 ∷ []
 unfolding placed lent bytes drawn_of draws_number draws places_right all place_right limb_at
 places = refl
 
 -- a wrong limb refuses the question about every other
-beside : drawn_of bent 1 ≡ Refused 15
+beside : drawn_of bent 1 ≡ Err 15
 unfolding bent lent bytes drawn_of draws_number places_right all place_right limb_at
 beside = refl

@@ -38,8 +38,8 @@ unfolding all
 all_same zero t u h = refl
 all_same (suc n) t u h = ap₂ ◌&&◌ (all_same n t u h) (h n)
 
-pub not-leb : (a b : ℕ) → not (leb a b) ≡ ltb b a
-not-leb a b = by_cases (dec_lt b a) (λ h. rw (lt-leb a b h, lt-ltb b a h)) (λ h. rw (le-leb a b (omega arith), le-ltb b a (omega arith)))
+pub not_leb : (a b : ℕ) → not (leb a b) ≡ ltb b a
+not_leb a b = by_cases (dec_lt b a) (λ h. rw (lt-leb a b h, lt-ltb b a h)) (λ h. rw (le-leb a b (omega arith), le-ltb b a (omega arith)))
 
 -- a sum tested as a difference
 pub as_difference : (a b n : ℕ) → b ≤ n → leb a (n - b) ≡ leb (a + b) n
@@ -152,7 +152,7 @@ module _ (n : ℕ) (x : Limb) where
       → passed ≡ leb (x.start + k) x.place
       → (leb 1 k && leb k 128 && leb x.start x.place && not passed && inside) ≡ limb_right n x
   unfolding limb_right place_right
-  right_active k inside passed h e a b = rw (ne_eqb _ _ h, a, b, not-leb (x.start + k) x.place, e)
+  right_active k inside passed h e a b = rw (ne_eqb _ _ h, a, b, not_leb (x.start + k) x.place, e)
 
   -- what is known of an active limb that is right
   pub record RightIn : Type 0 where

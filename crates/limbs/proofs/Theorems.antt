@@ -1,6 +1,6 @@
 -- What an accepted tick leaves, as a reader of document 01 asks for it: limb by limb, the bytes beside them, and that the next tick and the question
 -- whether a limb draws are accepted. A payload is at most 4,294,967,296 bytes long here, as any block's is: its size is a u32.
-use Rattle.std.proofs.Common.{◌≡◌, refl, sym, ap, ◌∙◌, true, ◌||◌, List, ℕ, ◌+◌, ◌*◌, ◌-◌, ◌<◌, ◌≤◌, arith, le-ltb, le-leb, leb, length, get_or, length-drop}
+use Rattle.std.proofs.Common.{◌≡◌, sym, ap, ◌∙◌, true, ◌||◌, List, ℕ, ◌+◌, ◌*◌, ◌-◌, ◌<◌, ◌≤◌, arith, le-ltb, le-leb, ne_eqb, leb, length, get_or, length-drop}
 use mathlib.Core.Logic.{by_cases}
 use native.Mathlib.Decide.{ℕ_discrete}
 use Rattle.number.proofs.BoolLaws.{both}
@@ -9,7 +9,7 @@ use Rattle.limbs.specs.Limb.{idle, limb_at, each_limb, all, place_right, limb_ri
 use Rattle.limbs.specs.Tick.{stream, ticked_limb, tick_number, tick_bytes}
 use Rattle.limbs.proofs.LimbLaws.{all_at, all_of, length-each, each_above}
 use Rattle.limbs.proofs.AfterLaws.{Bytes, Small, limb_small, each-limb, each_unused, each-kept}
-use Rattle.limbs.proofs.TickLaws.{tick_kept, tick_idle, ticked_active, ticked_right, tick_accepted, Ticks}
+use Rattle.limbs.proofs.TickLaws.{tick_idle, ticked_active, ticked_right, tick_accepted, Ticks}
 
 -- limbs that are put right are right
 pub limbs_put : (n : ℕ) (f : ℕ → Limb → Limb) (l : List ℕ)
@@ -24,7 +24,7 @@ limbs_put n f l whole small right =
 -- ---- an accepted tick
 module _ (s l : List ℕ) (v : ℕ) (ok : tick_number s l v ≡ 0) where
   ticks : Ticks s l v
-  ticks = tick_accepted s l v 0 (sym ok) refl
+  ticks = tick_accepted s l v ok
 
   tick_is : tick_bytes s l v ≡ each_limb (λ i. ticked_limb (stream s v)) 16 l
   unfolding tick_bytes
@@ -85,4 +85,5 @@ tick_then_draws s l v i ok h =
 
 -- ---- nothing changes where a tick is refused
 pub tick_unchanged : (s l : List ℕ) (v : ℕ) → (tick_number s l v ≡ 0 → ⊥) → tick_bytes s l v ≡ l
-tick_unchanged s l v h = sym (tick_kept s l v (tick_number s l v) refl h)
+unfolding tick_bytes
+tick_unchanged s l v h = rw (ne_eqb _ _ h)

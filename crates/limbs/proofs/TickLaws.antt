@@ -1,11 +1,11 @@
 -- Laws of a tick.
-use Rattle.std.proofs.Common.{◌≡◌, refl, sym, ap, ◌∙◌, Bool, true, false, ◌&&◌, cond, List, ℕ, ◌+◌, ◌-◌, ◌<◌, ◌≤◌, arith, lt-ltb, le-ltb, leb-true, ltb-true, ltb-false, eq-eqb, ne_eqb, ltb, leb, eqb, length, get_or, drop, length-drop, get_or-drop}
+use Rattle.std.proofs.Common.{◌≡◌, refl, sym, ap, ◌∙◌, Bool, true, false, ◌&&◌, cond, List, ℕ, ◌+◌, ◌-◌, ◌≤◌, arith, leb-true, ltb-true, ltb-false, eq-eqb, ne_eqb, ltb, leb, eqb, length, get_or, drop, length-drop, get_or-drop}
 use mathlib.Core.Logic.{by_cases}
 use native.Mathlib.Decide.{ℕ_discrete}
 use Rattle.number.proofs.BoolLaws.{both}
 use Rattle.limbs.specs.declared.Limb.{Limb}
-use Rattle.limbs.specs.Limb.{flag, each_limb, limbs_right, limb_right}
-use Rattle.limbs.specs.Tick.{command_right, stream, with_stopped, with_picture, with_place, obeyed, moved_on, ticked_limb, tick_number, tick_bytes}
+use Rattle.limbs.specs.Limb.{flag, limbs_right, limb_right}
+use Rattle.limbs.specs.Tick.{command_right, stream, with_stopped, with_picture, with_place, obeyed, moved_on, ticked_limb, tick_number}
 use Rattle.limbs.proofs.LimbLaws.{RightIn, right_in, right_from}
 
 -- a byte leaves its limb's window and place
@@ -66,20 +66,8 @@ module _ (n : ℕ) where
       by_cases (ℕ_discrete x.active 0) (λ e. ap (limb_right n) (sym (tick_idle c x e)) ∙ h)
       (λ e. right_from n (ticked_limb c x) (ticked_active c x e h))
 
--- ---- the number of a tick, from the tests that the code makes
-module _ (s l : List ℕ) (v : ℕ) where
-  pub tick_short : length l < 256 → 4 ≡ tick_number s l v
-  unfolding tick_number
-  tick_short h = rw (lt-ltb _ _ h)
-
-  module _ (h : 256 ≤ length l) (c : Bool) (e : c ≡ command_right s v) where
-    pub tick_command : c ≡ false → 15 ≡ tick_number s l v
-    unfolding tick_number
-    tick_command g = rw (le-ltb _ _ h, ← e, g)
-
-    pub tick_tested : c ≡ true → (r : Bool) → r ≡ limbs_right (length s - (v - 6)) l → ◌≡◌ {A = ℕ} (cond r 0 15) (tick_number s l v)
-    unfolding tick_number
-    tick_tested g r f = rw (le-ltb _ _ h, ← e, g, length-drop (v - 6) s, ← f)
+pub stream_length : (s : List ℕ) (v : ℕ) → length (stream s v) ≡ length s - (v - 6)
+stream_length s v = length-drop (v - 6) s
 
 -- a command offset that is right
 pub command_in : (s : List ℕ) (v : ℕ) → command_right s v ≡ true → (6 ≤ v) × (v - 6 ≤ length s)
@@ -92,9 +80,9 @@ pub record Ticks (s l : List ℕ) (v : ℕ) : Type 0 where
   pub high : v - 6 ≤ length s
   pub right : limbs_right (length s - (v - 6)) l ≡ true
 
-pub tick_accepted : (s l : List ℕ) (v n : ℕ) → n ≡ tick_number s l v → n ≡ 0 → Ticks s l v
+pub tick_accepted : (s l : List ℕ) (v : ℕ) → tick_number s l v ≡ 0 → Ticks s l v
 unfolding tick_number
-tick_accepted s l v n e z = go (ltb (length l) 256) refl (command_right s v) refl (limbs_right (length (stream s v)) l) refl (sym e ∙ z)
+tick_accepted s l v ok = go (ltb (length l) 256) refl (command_right s v) refl (limbs_right (length (stream s v)) l) refl ok
   where
     go : (a : Bool) → ltb (length l) 256 ≡ a → (b : Bool) → command_right s v ≡ b → (c : Bool) → limbs_right (length (stream s v)) l ≡ c → ◌≡◌ {A = ℕ}
         (cond a 4 (cond (b && c) 0 15)) 0 → Ticks s l v
@@ -109,12 +97,3 @@ tick_accepted s l v n e z = go (ltb (length l) 256) refl (command_right s v) ref
     go false p true q false r h = absurd (omega arith)
     go false p false q true r h = absurd (omega arith)
     go false p false q false r h = absurd (omega arith)
-
-pub tick_kept : (s l : List ℕ) (v n : ℕ) → n ≡ tick_number s l v → (n ≡ 0 → ⊥) → l ≡ tick_bytes s l v
-unfolding tick_bytes
-tick_kept s l v n e z = rw (← e, ne_eqb _ _ z)
-
-pub tick_done : (s l m : List ℕ) (v n : ℕ) → n ≡ tick_number s l v → n ≡ 0 → m ≡ each_limb (λ i. ticked_limb (drop (v - 6) s)) 16 l → (0 ≡ tick_number s l v) ×
-    (m ≡ tick_bytes s l v)
-unfolding tick_bytes
-tick_done s l m v n e z d = (sym z ∙ e, rw (← e, eq-eqb _ _ z) d)

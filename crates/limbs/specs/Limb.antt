@@ -1,12 +1,10 @@
 -- The 16 limbs of a costume in lent bytes (document 01, "Actors, points, limbs"). Limb i has the 16 bytes from 16 i: active, stopped, no-loop,
 -- has a picture (each 0 for no, else yes), picture, length, two bytes that are not used, start and place as u32 little-endian.
 -- Start and place are indexes into the command stream. A byte past the end of a list counts as 0.
-use Rattle.std.specs.Prelude.{Bool, true, ◌&&◌, ◌||◌, not, cond, List, [], ◌∷◌, ℕ, zero, suc, ◌+◌, ◌*◌, length, get_or, ltb, leb, eqb}
+use Rattle.std.specs.Prelude.{Bool, true, ◌&&◌, ◌||◌, not, cond, List, [], ◌∷◌, ℕ, zero, suc, ◌+◌, ◌*◌, length, get_or, ltb, leb, eqb, Option, Some, None, Result, Ok, Err}
 use Rattle.std.proofs.lemmas.List.Edits.{sets}
 use Rattle.number.specs.Number.{le32, le32_bytes}
 use Rattle.limbs.specs.declared.Limb.{Limb}
-use Rattle.limbs.specs.declared.Drawn.{Drawn}
-use Rattle.limbs.specs.declared.Drawn.TheVariants.{Refused, Nothing, Picture}
 
 -- a byte that says yes
 abbrev pub flag : ℕ → Bool
@@ -65,8 +63,8 @@ unfoldable pub limbs_right : ℕ → List ℕ → Bool
 limbs_right n l = all 16 (λ i. limb_right n (limb_at l i))
 
 -- a limb draws if it is active, not stopped, with a picture
-unfoldable pub draws : Limb → Drawn
-draws x = cond (flag x.active && not (flag x.stopped) && flag x.shows) (Picture x.picture) Nothing
+unfoldable pub draws : Limb → Result (Option ℕ) ℕ
+draws x = cond (flag x.active && not (flag x.stopped) && flag x.shows) (Ok (Some x.picture)) (Ok None)
 
 -- the number of the question about limb i: 4 where the 16 limbs are not lent whole, then 15 where there is no such limb or one of the 16 is wrong.
 -- No stream is lent to the question, so the windows' ends are not tested.
@@ -74,17 +72,17 @@ unfoldable pub draws_number : List ℕ → ℕ → ℕ
 draws_number l i = cond (ltb (length l) 256) 4 (cond (leb i 15 && places_right l) 0 15)
 
 -- its answer
-unfoldable pub drawn_of : List ℕ → ℕ → Drawn
-drawn_of l i = cond (eqb (draws_number l i) 0) (draws (limb_at l i)) (Refused (draws_number l i))
+unfoldable pub drawn_of : List ℕ → ℕ → Result (Option ℕ) ℕ
+drawn_of l i = cond (eqb (draws_number l i) 0) (draws (limb_at l i)) (Err (draws_number l i))
 
 -- document 01's number for each case of an answer
-abbrev pub number : Drawn → ℕ
-number (Refused n) = n
-number Nothing = 0
-number (Picture p) = 0
+abbrev pub number : Result (Option ℕ) ℕ → ℕ
+number (Err n) = n
+number (Ok None) = 0
+number (Ok (Some p)) = 0
 
 -- and its value: 256 and the picture where the limb draws, else 0
-abbrev pub value : Drawn → ℕ
-value (Refused n) = 0
-value Nothing = 0
-value (Picture p) = 256 + p
+abbrev pub value : Result (Option ℕ) ℕ → ℕ
+value (Err n) = 0
+value (Ok None) = 0
+value (Ok (Some p)) = 256 + p

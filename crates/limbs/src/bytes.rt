@@ -1,11 +1,9 @@
 // The limbs in lent bytes: reading, writing and testing them (document 01, "Actors, points, limbs").
-ghost use Rattle.std.specs.Prelude.{◌≡◌, ◌+◌, ◌*◌, ◌≤◌, length, leb};
-ghost use Rattle.std.proofs.lemmas.List.Edits.{sets};
-ghost use Rattle.limbs.specs.Limb.{limb_at, put_limb, head_bytes, limb_right, limbs_right, draws};
+ghost use Rattle.std.specs.Prelude.{◌≡◌, ◌+◌, ◌*◌, ◌≤◌, length, leb, Ok};
+ghost use Rattle.limbs.specs.Limb.{limb_at, put_limb, limb_right, limbs_right, draws};
 
-use crate::{Drawn, Limb};
-use number::buffer::{put_four, put_two};
-use number::{put_le32, read_le32, wide};
+use crate::Limb;
+use number::{put_le32, read_le32};
 
 // Limb i, which lies in the lent bytes.
 pub fn limb_at(limbs: &[u8], i: usize) -> Limb
@@ -27,29 +25,20 @@ pub fn limb_at(limbs: &[u8], i: usize) -> Limb
     }
 }
 
-// Writes the bytes of a limb before the two that are not used.
-fn put_head(limbs: &mut [u8], at: usize, limb: Limb)
-    requires { at + 6 ≤ length limbs.old }
-    ensures { limbs.new ≡ sets limbs.old at (head_bytes limb) }
-{
-    put_four(
-        limbs,
-        at,
-        limb.active,
-        limb.stopped,
-        limb.noloop,
-        limb.shows,
-    );
-    put_two(limbs, at + 4, limb.picture, limb.len);
-}
-
 // Writes limb i; its two bytes that are not used stay.
 pub fn put_limb(limbs: &mut [u8], i: usize, limb: Limb)
     requires { 16 * i + 16 ≤ length limbs.old }
     ensures { limbs.new ≡ put_limb limbs.old i limb }
 {
     let at = 16 * i;
-    put_head(limbs, at, limb);
+    limbs[at..at + 6].copy_from_slice(&[
+        limb.active,
+        limb.stopped,
+        limb.noloop,
+        limb.shows,
+        limb.picture,
+        limb.len,
+    ]);
     put_le32(limbs, at + 8, limb.start);
     put_le32(limbs, at + 12, limb.place);
 }
@@ -58,23 +47,18 @@ pub fn put_limb(limbs: &mut [u8], i: usize, limb: Limb)
 pub fn window_right(start: usize, len: usize, n: usize) -> bool
     ensures { result ≡ leb (start + len) n }
 {
-    if n < len {
-        return false;
-    }
-    start <= n - len
+    len <= n && start <= n - len
 }
 
 // Whether a lent limb is right for a stream of n bytes.
+#[tactic(auto, using(crate::proofs::LimbLaws::not_leb), unfolding(crate::specs::Limb::limb_right, crate::specs::Limb::place_right))]
 fn limb_right(limb: Limb, n: usize) -> bool
     ensures { result ≡ limb_right n limb }
 {
-    if limb.active == 0 {
-        return true;
-    }
-    let len = wide(limb.len);
+    let len = usize::from(limb.len);
     let inside = window_right(limb.start, len, n);
     let passed = window_right(limb.start, len, limb.place);
-    (1 <= len) & (len <= 128) & (limb.start <= limb.place) & !passed & inside
+    limb.active == 0 || (1 <= len && len <= 128 && limb.start <= limb.place && !passed && inside)
 }
 
 // Whether all 16 lent limbs are right for a stream of n bytes.
@@ -82,29 +66,18 @@ pub fn limbs_right(limbs: &[u8], n: usize) -> bool
     requires { 256 ≤ length limbs.now }
     ensures { result ≡ limbs_right n limbs.now }
 {
-    let mut i = 0;
-    while i < 16 {
-        let limb = limb_at(limbs, i);
-        if !limb_right(limb, n) {
+    for i in 0..16 {
+        if !limb_right(limb_at(limbs, i), n) {
             return false;
         }
-        i += 1;
     }
     true
 }
 
-// Whether a limb draws, and which picture.
-pub(crate) fn draw(limb: Limb) -> Drawn
-    ensures { result ≡ draws limb }
+// The picture that a limb draws, where it draws.
+#[tactic(auto, unfolding(crate::specs::Limb::draws))]
+pub(crate) fn draw(limb: Limb) -> Option<u8>
+    ensures { Ok result ≡ draws limb }
 {
-    if limb.active == 0 {
-        return Drawn::Nothing;
-    }
-    if limb.stopped != 0 {
-        return Drawn::Nothing;
-    }
-    if limb.shows == 0 {
-        return Drawn::Nothing;
-    }
-    Drawn::Picture(limb.picture)
+    (limb.active != 0 && limb.stopped == 0 && limb.shows != 0).then_some(limb.picture)
 }

@@ -4,30 +4,9 @@ use Rattle.actor.proofs.mask.window.Goals as goal
 
 -- `actor::mask::window` meets its contract. Assumes nothing.
 
-pub overflow_cast-a : goal.overflow_cast-a
-overflow_cast-a c = omega (arith, c.shared_slice_known-1.given c.args.i)
+pub returns-clause-from_first_byte : goal.returns-clause-from_first_byte
+returns-clause-from_first_byte c =
+    λ k in_first. rw (c.from-a.ensures, c.from-b.ensures) (window_first _ _ _ k in_first (c.type_inv.masks c.args.j).fits)
 
-pub overflow_cast-b : goal.overflow_cast-b
-overflow_cast-b c = omega (arith, c.shared_slice_known-2-1.given c.args.j)
-
-pub overflow_mul-result : goal.overflow_mul-result
-overflow_mul-result c =
-    omega (
-      arith,
-      c.shared_slice_known-1.given c.args.i,
-      c.shared_slice_known-2-1.given c.args.j,
-    )
-
-pub overflow_add-result : goal.overflow_add-result
-overflow_add-result c =
-    omega (
-      arith,
-      c.shared_slice_known-1.given c.args.i,
-      c.shared_slice_known-2-1.given c.args.j,
-    )
-
-pub returns : goal.returns
-returns c = record {
-  from_first_byte = λ k in_first. window_first _ _ _ k in_first (omega (arith, c.shared_slice_known-2-1.given c.args.j));
-  from_second_byte = λ k small in_last. window_last _ _ _ k small (omega arith) in_last;
-}
+pub returns-clause-from_second_byte : goal.returns-clause-from_second_byte
+returns-clause-from_second_byte c = λ k small in_last. rw (c.from-a.ensures, c.from-b.ensures) (window_last _ _ _ k small (omega arith) in_last)

@@ -1,5 +1,4 @@
-use Rattle.std.proofs.Common.{◌≡◌, refl, ap, ◌∙◌, arith, length}
-use Rattle.grid.proofs.Upd.{length-upd}
+use Rattle.std.proofs.Common.{◌≡◌, arith}
 use Rattle.grid.proofs.Box.{row-none}
 use Rattle.actor.proofs.MaskLaws.{eight-more}
 use Rattle.actor.proofs.row.eights.Goals as goal
@@ -7,21 +6,16 @@ use Rattle.actor.proofs.row.eights.Goals as goal
 -- `actor::row::eights` meets its contract. Assumes nothing.
 
 pub loop-k-init : goal.loop-k-init
-loop-k-init c = (row-none _ _ _ _ _, omega arith, refl)
+loop-k-init c = row-none _ _ _ _ _
 
 pub loop-k-preserved : goal.loop-k-preserved
 loop-k-preserved c =
-    let made = c.eight.ensures in
     let window = c.window-bits in
-    let inv = c.loop-k.invariant in
-    let a = c.args in (
-      eight-more a.masks.now a.picture.now _ _ _ _ a.x _ a.line a.from a.clear window.result c.loop-k.k inv.0 made
-          window.ensures.from_first_byte window.ensures.from_second_byte,
-      omega arith,
-      ap length made ∙ simp length-upd inv.2,
-    )
+    let a = c.args in
+    eight-more a.masks.now a.picture.now _ _ _ _ a.x _ a.line a.from a.clear window.result c.loop-k.k c.loop-k.invariant c.eight.ensures
+    window.ensures.from_first_byte window.ensures.from_second_byte
 
 pub returns : goal.returns
 returns c =
     let all : c.loop-k.k ≡ c.args.count = omega arith in
-    rw all at c.loop-k.invariant.0
+    rw all at c.loop-k.invariant

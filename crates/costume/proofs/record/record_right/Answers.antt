@@ -12,35 +12,27 @@ returns-then-payload-r c = record_cut _ _ _ c.if-payload-r.true
 
 pub loop-i-init : goal.loop-i-init
 unfolding all entry_place
-loop-i-init c = (omega arith, omega arith, omega arith, c.read_le16-mask.ensures.0, refl, refl)
+loop-i-init c = record { within = omega arith; place = refl; right = refl }
 
 pub returns-then-not-entry_right : goal.returns-then-not-entry_right
 returns-then-not-entry_right c =
-    let loop-test = c.loop-i-test in
-    let loop = c.loop-i in
     let a = c.args in
-    let v = loop.invariant in
-    let off = c.if-not-entry_right.true in
-    let e = entry_read a.payload.now a.r loop.i _ _ _ v.3 v.4 c.entry_at-entry.ensures in
-    record_wrong _ _ a.n loop.i v.1 loop-test.true (ap (entry_right a.n) (sym e) ∙ sym c.entry_right.ensures ∙ off)
+    let e = entry_read a.payload.now a.r c.loop-i.i _ _ _ c.read_le16-mask.ensures.0 c.loop-i.invariant.place c.entry_at-entry.ensures in
+    record_wrong _ _ a.n c.loop-i.i c.if-payload-r.false c.loop-i-test.true
+    (ap (entry_right a.n) (sym e) ∙ sym c.entry_right.ensures ∙ c.if-not-entry_right.true)
 
 pub loop-i-preserved : goal.loop-i-preserved
 loop-i-preserved c =
-    let entry_at = c.entry_at-entry in
-    let loop = c.loop-i in
     let a = c.args in
-    let v = loop.invariant in
-    let on = c.if-not-entry_right.false in
-    let e = entry_read a.payload.now a.r loop.i _ _ _ v.3 v.4 entry_at.ensures in (
-      omega arith,
-      v.1,
-      omega arith,
-      v.3,
-      rw add-one (place-more a.payload.now a.r loop.i _ _ _ v.4 e c.entry_size-p.ensures.0),
-      rw add-one (all_more _ _ v.5 (ap (entry_right a.n) (sym e) ∙ sym c.entry_right.ensures ∙ on)),
-    )
+    let v = c.loop-i.invariant in
+    let e = entry_read a.payload.now a.r c.loop-i.i _ _ _ c.read_le16-mask.ensures.0 v.place c.entry_at-entry.ensures in
+    record {
+      within = omega (arith, v.within, c.entry_size-p.ensures.1);
+      place = rw add-one (place-more a.payload.now a.r c.loop-i.i _ _ _ v.place e c.entry_size-p.ensures.0);
+      right = rw add-one (all_more _ _ v.right (ap (entry_right a.n) (sym e) ∙ sym c.entry_right.ensures ∙ c.if-not-entry_right.false));
+    }
 
 pub returns : goal.returns
 returns c =
     let e : c.loop-i.i ≡ 16 = omega arith in
-    record-right _ _ _ c.loop-i.invariant.1 (rw e at c.loop-i.invariant.5)
+    record-right _ _ _ c.if-payload-r.false (rw e at c.loop-i.invariant.right)

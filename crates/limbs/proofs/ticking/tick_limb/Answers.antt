@@ -8,29 +8,18 @@ use Rattle.limbs.proofs.ticking.tick_limb.Goals as goal
 pub returns-then-limb-eq0 : goal.returns-then-limb-eq0
 returns-then-limb-eq0 c = tick_idle _ _ c.if-limb-eq0.true
 
-pub overflow_add-at : goal.overflow_add-at
-overflow_add-at c =
-    let args = c.args in let pre = c.requires in
-    let h = right_in (length args.payload.now - args.from) args.limb c.if-limb-eq0.false pre.1 in
-    omega arith
+pub overflow_add-from : goal.overflow_add-from
+overflow_add-from c = let h = right_in (length c.args.payload.now - c.args.from) c.args.limb c.if-limb-eq0.false c.requires.1 in omega arith
 
-pub bounds-payload-at : goal.bounds-payload-at
-bounds-payload-at c =
-    let if1 = c.if-limb-eq0 in let args = c.args in
-    let pre = c.requires in
-    let h = right_in (length args.payload.now - args.from) args.limb if1.false pre.1 in
-    omega arith
+pub bounds-payload-from : goal.bounds-payload-from
+bounds-payload-from c = let h = right_in (length c.args.payload.now - c.args.from) c.args.limb c.if-limb-eq0.false c.requires.1 in omega arith
 
 pub move_on-requires : goal.move_on-requires
 move_on-requires c =
-    let if1 = c.if-limb-eq0 in let args = c.args in
-    let pre = c.requires in
-    let h = right_in (length args.payload.now - args.from) args.limb if1.false pre.1 in
-    let w = obeyed_window (get_or args.payload.now (args.from + args.limb.place) 0) args.limb in
-    rw (c.obey-x.ensures, w.place, w.start, w.len) (omega arith)
+    let a = c.args in
+    let h = right_in (length a.payload.now - a.from) a.limb c.if-limb-eq0.false c.requires.1 in
+    let w = obeyed_window (get_or a.payload.now (a.from + a.limb.place) 0) a.limb in
+    rw (c.obey.ensures, w.place, w.start, w.len) (omega arith)
 
 pub returns : goal.returns
-returns c =
-    let obey = c.obey-x in let if1 = c.if-limb-eq0 in
-    let args = c.args in
-    tick_active args.payload.now args.from args.limb obey.result _ if1.false obey.ensures c.move_on.ensures
+returns c = tick_active c.args.payload.now c.args.from c.args.limb c.obey.result _ c.if-limb-eq0.false c.obey.ensures c.move_on.ensures
