@@ -45,9 +45,9 @@ install install-library uninstall: export TREE := $(TREE)
 # rt itself knows which crates are proved already; it is asked only where a source is newer than the library, which it builds in the crate's out/.
 CRATES := crates.txt $(shell find crates -name out -prune -o -name '*.rt' -print -o -name '*.antt' -print)
 $(LIBRARY): $(CRATES)
-	cd crates/kildegrom_c && $(RT) lib
+	cd crates/kildegrom && $(RT) lib
 	@mkdir -p $(@D)
-	cp crates/kildegrom_c/out/libkildegrom_c.a $@
+	cp crates/kildegrom/out/libkildegrom.a $@
 
 # The archive's own objects: nothing is compiled again. What the calls are made of stays inside, so that no name of it can meet a host's.
 shared: $(SHARED)

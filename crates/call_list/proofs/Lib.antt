@@ -1,3 +1,2 @@
-pub mod CodedLaws
 pub mod RunLaws
 pub mod EndLaws

@@ -1,18 +1,13 @@
 -- Laws of runs: a room's refusal is 1 to 8 and a call's number at most 13; what stands at a place of the numbers. Assumes nothing.
-use Rattle.std.proofs.Common.{ℕ, zero, suc, ◌+◌, ◌≤◌, ◌<◌, ◌≡◌, refl, sym, ap, ◌∙◌, Bool, true, false, cond, not, ◌&&◌, List, [], ◌∷◌, arith, add-one, eqb, leb, length, get_or, set, length-set, get_or-set_same, get_or-set_other}
+use Rattle.std.proofs.Common.{ℕ, zero, suc, ◌+◌, ◌≤◌, ◌<◌, ◌≡◌, refl, sym, ap, ◌∙◌, Bool, true, false, cond, not, ◌&&◌, List, [], ◌∷◌, arith, add-one, eqb, leb, length, get_or, set, length-set, get_or-set_same, get_or-set_other, Option, Some, None, Result, Ok, Err}
 use mathlib.Core.Logic.{by_cases}
 use native.Mathlib.Decide.{ℕ_discrete}
-use Rattle.table.specs.declared.Test as table
-use Rattle.table.specs.declared.Test.TheVariants as test
 use Rattle.block.specs.Tree.{well_formed}
 use Rattle.room.specs.Head.{head_of, head_in, sized, sizes_right, objects_right, trns_in, holds_index, needed_in, room_of}
 use Rattle.room.specs.Test.{strips, pictures_test, short, room_when_passed, after_head, room_test}
 use Rattle.room.specs.declared.Lent as room-lent
-use Rattle.room.specs.declared.Needed.{Needed}
-use Rattle.room.specs.declared.Needed.TheVariants as needed
+use Rattle.room.specs.declared.Parts.{Parts}
 use Rattle.room.specs.declared.Room as room
-use Rattle.room.specs.declared.Tested.{Tested}
-use Rattle.room.specs.declared.Tested.TheVariants.{Right, Refused}
 use Rattle.scene.specs.Painting.{Room}
 use Rattle.scene.specs.Steps.{Scene, some, allowed, entry_of, refusal, most_steps}
 use Rattle.scene.specs.declared.Call.{Call}
@@ -30,23 +25,23 @@ use Rattle.call_list.specs.Run.{played_number, put_first}
 
 -- ---- a room's refusal
 
-abbrev pub LowTested : Tested → Type 0
-LowTested (Right r) = Unit {0}
-LowTested (Refused n) = (1 ≤ n) × (n ≤ 8)
+abbrev pub LowTested : Result room.Room ℕ → Type 0
+LowTested (Ok r) = Unit {0}
+LowTested (Err n) = (1 ≤ n) × (n ≤ 8)
 
 low-sized : (r : room.Room) → LowTested (sized r)
 unfolding sized
 low-sized r = on (sizes_right r.width r.height r.planes r.objects)
   where
-    on : (t : Bool) → LowTested (cond t (Right r) (Refused 3))
+    on : (t : Bool) → LowTested (cond t (Ok r) (Err 3))
     on true = tt
     on false = omega arith
 
-low_needed : (s : List ℕ) (n : Needed) → LowTested (head_in s n)
-low_needed s needed.Missing = omega arith
-low_needed s (needed.All p) = on (objects_right s && holds_index (trns_in s))
+low_needed : (s : List ℕ) (n : Option Parts) → LowTested (head_in s n)
+low_needed s None = omega arith
+low_needed s (Some p) = on (objects_right s && holds_index (trns_in s))
   where
-    on : (t : Bool) → LowTested (cond t (sized (room_of s p)) (Refused 2))
+    on : (t : Bool) → LowTested (cond t (sized (room_of s p)) (Err 2))
     on true = low-sized (room_of s p)
     on false = omega arith
 
@@ -54,7 +49,7 @@ low_head : (s : List ℕ) → LowTested (head_of s)
 unfolding head_of
 low_head s = on (well_formed s)
   where
-    on : (t : Bool) → LowTested (cond t (head_in s (needed_in s)) (Refused 1))
+    on : (t : Bool) → LowTested (cond t (head_in s (needed_in s)) (Err 1))
     on true = low_needed s (needed_in s)
     on false = omega arith
 
@@ -62,16 +57,16 @@ low-pictures : (s : List ℕ) (r : room.Room) → LowTest (pictures_test s r)
 unfolding pictures_test
 low-pictures s r = low_im r.planes (strips r) r.height s r.image r.image_end r.smap r.smap_end
 
-low_or : (t : table.Test) (r : room.Room) → LowTest t → LowTested (room_when_passed t r)
-low_or test.Passed r h = tt
-low_or (test.Refused n) r h = h
+low_or : (t : Result (Unit {0}) ℕ) (r : room.Room) → LowTest t → LowTested (room_when_passed t r)
+low_or (Ok tt) r h = tt
+low_or (Err n) r h = h
 
-low-after : (lent : room-lent.Lent) (s : List ℕ) (t : Tested) → LowTested t → LowTested (after_head lent s t)
+low-after : (lent : room-lent.Lent) (s : List ℕ) (t : Result room.Room ℕ) → LowTested t → LowTested (after_head lent s t)
 unfolding after_head
-low-after lent s (Refused n) h = h
-low-after lent s (Right r) h = on (short lent r)
+low-after lent s (Err n) h = h
+low-after lent s (Ok r) h = on (short lent r)
   where
-    on : (t : Bool) → LowTested (cond t (Refused 4) (room_when_passed (pictures_test s r) r))
+    on : (t : Bool) → LowTested (cond t (Err 4) (room_when_passed (pictures_test s r) r))
     on true = omega arith
     on false = low_or (pictures_test s r) r (low-pictures s r)
 
@@ -121,9 +116,9 @@ module _ (s : List ℕ) (r : room.Room) where
 pub low-call : (s : List ℕ) (x : Lent) (c : Call) → number_of s x c ≤ 13
 low-call s x c = on (call_test s x) (low-room _ s)
   where
-    on : (t : Tested) → LowTested t → call_number s x.session x.pixels x.masks c t ≤ 13
-    on (Right r) h = low-called s r (state_of (decoded s r) x.session x.pixels x.masks) c
-    on (Refused n) h = omega arith
+    on : (t : Result room.Room ℕ) → LowTested t → call_number s x.session x.pixels x.masks c t ≤ 13
+    on (Ok r) h = low-called s r (state_of (decoded s r) x.session x.pixels x.masks) c
+    on (Err n) h = omega arith
 
 -- ---- playing on
 

@@ -1,7 +1,6 @@
 -- What a run leaves: the bytes and the numbers after a load and the first n calls of a list. Assumes nothing.
-use Rattle.std.specs.Prelude.{ℕ, zero, suc, List, set}
-use Rattle.room.specs.declared.Tested.{Tested}
-use Rattle.room.specs.declared.Tested.TheVariants.{Right, Refused}
+use Rattle.std.specs.Prelude.{ℕ, zero, suc, List, set, Result, Ok, Err}
+use Rattle.room.specs.declared.Room.{Room}
 use Rattle.play.specs.Bytes.{Lent, test_of, number_of, played, bytes_after}
 use Rattle.call_list.specs.Coded.{call_at, calls_of}
 
@@ -19,9 +18,9 @@ abbrev pub number_at : List ℕ → Lent → (calls : List ℕ) → (i : ℕ) �
 number_at s b l i = number_of s (bytes_after s b (calls_of l i)) (call_at l i)
 
 -- the first where the room passes, else the second
-abbrev pub if_passed : {A : Type 0} → Tested → A → A → A
-if_passed (Right r) x y = x
-if_passed (Refused n) x y = y
+abbrev pub if_passed : {A : Type 0} → Result Room ℕ → A → A → A
+if_passed (Ok r) x y = x
+if_passed (Err n) x y = y
 
 -- the lent bytes after a run of n calls: where the load is refused, as they were
 abbrev pub bytes_run : List ℕ → Lent → (calls : List ℕ) → (n : ℕ) → Lent

@@ -1,9 +1,8 @@
 // Calls read from bytes, and played in order.
 ghost use Rattle.std.specs.Prelude.{◌≡◌, ◌+◌, ◌*◌, ◌≤◌, length};
 ghost use Rattle.number.specs.Number.{le32};
-ghost use Rattle.scene.specs.declared.Call.TheVariants.{Make};
 ghost use Rattle.play.specs.Bytes.{lent, after_call, number_of, played};
-ghost use Rattle.call_list.specs.Coded.{call_with, call_from, call_at, calls_of, call_count};
+ghost use Rattle.call_list.specs.Coded.{call_from, call_at, calls_of, call_count};
 ghost use Rattle.call_list.specs.Run.{played_number, put_first};
 
 use number::read_le32;
@@ -18,35 +17,22 @@ fn field(calls: &[u8], at: usize) -> u32
     read_le32(calls, at) as u32
 }
 
-// The step in the 20 bytes from `at` on, whose kind is known to be 0, 1 or 2.
-fn step_from(calls: &[u8], at: usize, kind: u32) -> Step
-    requires { (at + 20 ≤ length calls.now) × (kind ≤ 2) }
-    ensures { Make result ≡ call_with calls.now at kind }
-{
-    let object = field(calls, at + 4);
-    match kind {
-        0 => Step::Hide(object),
-        1 => Step::Draw(object, field(calls, at + 8), Place::Last),
-        _ => {
-            let state = field(calls, at + 8);
-            let a = field(calls, at + 12);
-            let b = field(calls, at + 16);
-            Step::Draw(object, state, Place::Strip(a, b))
-        }
-    }
-}
-
 // The call in the 20 bytes from `at` on.
 fn call_from(calls: &[u8], at: usize) -> Call
     requires { at + 20 ≤ length calls.now }
     ensures { result ≡ call_from calls.now at }
 {
-    let kind = field(calls, at);
-    if 2 < kind {
-        return Call::TakeBack;
+    let object = field(calls, at + 4);
+    let state = field(calls, at + 8);
+    match field(calls, at) {
+        0 => Call::Make(Step::Hide(object)),
+        1 => Call::Make(Step::Draw(object, state, Place::Last)),
+        2 => {
+            let place = Place::Strip(field(calls, at + 12), field(calls, at + 16));
+            Call::Make(Step::Draw(object, state, place))
+        }
+        _ => Call::TakeBack,
     }
-    let step = step_from(calls, at, kind);
-    Call::Make(step)
 }
 
 // Plays call i: its number.
@@ -72,9 +58,7 @@ fn play_one(
 pub fn call_count(calls: &[u8], numbers: &[u8]) -> usize
     ensures { result ≡ call_count calls.now numbers.now }
 {
-    let whole = calls.len() / 20;
-    let bytes = numbers.len();
-    if whole < bytes { whole } else { bytes }
+    (calls.len() / 20).min(numbers.len())
 }
 
 // Plays the calls on bytes that hold a session, and keeps their numbers.
@@ -93,11 +77,7 @@ pub fn play_all(
         ≡ put_first (played_number room.now (lent session.old pixels.old masks.old) calls.now)
         (call_count calls.now numbers.old) numbers.old }
 {
-    let n = call_count(calls, &numbers[..]);
-    let mut i: usize = 0;
-    while i < n {
-        let number = play_one(room, session, pixels, masks, calls, i);
-        numbers[i] = number;
-        i += 1;
+    for i in 0..call_count(calls, numbers) {
+        numbers[i] = play_one(room, session, pixels, masks, calls, i);
     }
 }

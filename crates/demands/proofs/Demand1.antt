@@ -1,41 +1,26 @@
 -- Demand 1 holds: a refused call leaves every lent byte and answers its number only.
-use Rattle.std.proofs.Common.{ℕ, ◌≡◌, refl, ◌∙◌, List, [], ne_eqb, length}
+use Rattle.std.proofs.Common.{ℕ, ◌≡◌, refl, ◌∙◌, List, [], ne_eqb, length, Option, Some, None, Result, Ok, Err, Bool}
 use Rattle.room.specs.Test.{number_of, nothing}
 use Rattle.objects.specs.Record.{record_test, record_after}
 use Rattle.objects.specs.Object.{place_number, header_call, header_after, chosen_block}
 use Rattle.objects.specs.Name.{name_number, name_place, name_after, chosen_number, place_word, part_of}
-use Rattle.objects.specs.declared.Chosen.{Chosen}
-use Rattle.objects.specs.declared.Chosen.TheVariants as chosen
 use Rattle.object_list.specs.List.{list_test, rows_after}
 use Rattle.room.specs.declared.Room as room
-use Rattle.room.specs.declared.Tested.{Tested}
-use Rattle.room.specs.declared.Tested.TheVariants as tested
-use Rattle.objects.specs.declared.Place.{Place}
-use Rattle.objects.specs.declared.Place.TheVariants as place
+use Rattle.room.specs.declared.Room.{Room}
 use Rattle.actor.proofs.ActorLaws.{refused_keeps}
 use Rattle.actor.specs.Hidden as hidden
-use Rattle.actor.specs.declared.Answer.{Answer}
-use Rattle.actor.specs.declared.Answer.TheVariants as answer
 use Rattle.cast.specs.declared.Actor.{Actor}
 use Rattle.cast.specs.Call.{number_in, cast_list, cast_frame}
 use Rattle.block_writer.specs.Call as write
-use Rattle.block_writer.specs.declared.Wrote.{Wrote}
-use Rattle.block_writer.specs.declared.Wrote.TheVariants as wrote
 use Rattle.costume.specs.Start as start
 use Rattle.costume.specs.declared.Started.{Started}
-use Rattle.costume.specs.declared.Started.TheVariants as started
+use Rattle.costume.specs.declared.Started.TheVariants.{Set, Undefined}
 use Rattle.costume.proofs.Theorems.{start-number, start_unchanged}
 use Rattle.limbs.specs.Limb as limb
-use Rattle.limbs.specs.declared.Drawn.{Drawn}
-use Rattle.limbs.specs.declared.Drawn.TheVariants as drawn
 use Rattle.point.specs.Call as point
-use Rattle.point.specs.declared.Pointed.{Pointed}
-use Rattle.point.specs.declared.Pointed.TheVariants as pointed
 use Rattle.compare.specs.Compare as compare
-use Rattle.compare.specs.declared.Compared.{Compared}
-use Rattle.compare.specs.declared.Compared.TheVariants as compared
-use Rattle.kildegrom.specs.Word.{hidden_word, started_word, drawn_word, wrote_word, pointed_word, compared_word}
-use Rattle.kildegrom.proofs.WordLaws.{number_back, value_back}
+use Rattle.answers.specs.Word.{hidden_word, started_word, drawn_word, wrote_word, pointed_word, compared_word}
+use Rattle.answers.proofs.WordLaws.{number_back, value_back}
 use Rattle.limbs.proofs.Theorems.{tick_unchanged}
 use Rattle.load.specs.Load.{session_after, pixels_after, masks_after}
 use Rattle.scene.specs.declared.Call.{Call}
@@ -49,26 +34,26 @@ use Rattle.demands.specs.Demand1.{Refusing, Parts, Demand1}
 
 -- ---- records, headers, names, loads, blocks
 
-record_stays : (t : Tested) (lent : List ℕ) → Refusing (number_of t) → record_after t lent ≡ lent
-record_stays (tested.Right r) lent f = absurd (f refl)
-record_stays (tested.Refused n) lent f = refl
+record_stays : (t : Result Room ℕ) (lent : List ℕ) → Refusing (number_of t) → record_after t lent ≡ lent
+record_stays (Ok r) lent f = absurd (f refl)
+record_stays (Err n) lent f = refl
 
-rows_stay : (s rows : List ℕ) (t : Tested) → Refusing (number_of t) → rows_after s t rows ≡ rows
-rows_stay s rows (tested.Right r) f = absurd (f refl)
-rows_stay s rows (tested.Refused n) f = refl
+rows_stay : (s rows : List ℕ) (t : Result Room ℕ) → Refusing (number_of t) → rows_after s t rows ≡ rows
+rows_stay s rows (Ok r) f = absurd (f refl)
+rows_stay s rows (Err n) f = refl
 
-header_stays : (s lent : List ℕ) (p : Place) → Refusing (place_number p) → header_after s p lent ≡ lent
-header_stays s lent (place.At p) f = absurd (f refl)
-header_stays s lent (place.Refused n) f = refl
+header_stays : (s lent : List ℕ) (p : Result ℕ ℕ) → Refusing (place_number p) → header_after s p lent ≡ lent
+header_stays s lent (Ok p) f = absurd (f refl)
+header_stays s lent (Err n) f = refl
 
-name-empty : (s : List ℕ) (c : Chosen) → Refusing (chosen_number c) → (place_word (name_after s c) ≡ 0) × (part_of s (name_after s c) ≡ [])
-name-empty s (chosen.Block b z) f = absurd (f refl)
-name-empty s (chosen.Refused n) f = (refl, refl)
+name-empty : (s : List ℕ) (c : Result (ℕ × ℕ) ℕ) → Refusing (chosen_number c) → (place_word (name_after s c) ≡ 0) × (part_of s (name_after s c) ≡ [])
+name-empty s (Ok (b, z)) f = absurd (f refl)
+name-empty s (Err n) f = (refl, refl)
 
-load_stays : (s : List ℕ) (b : play.Lent) (t : Tested) → Refusing (number_of t)
+load_stays : (s : List ℕ) (b : play.Lent) (t : Result Room ℕ) → Refusing (number_of t)
     → record { session = session_after t b.session; pixels = pixels_after s t b.pixels; masks = masks_after s t b.masks } ≡ b
-load_stays s b (tested.Right r) f = absurd (f refl)
-load_stays s b (tested.Refused n) f = refl
+load_stays s b (Ok r) f = absurd (f refl)
+load_stays s b (Err n) f = refl
 
 block_stays : (o : write.Outcome) (d : List ℕ) → Refusing (write.number (write.answer_of o)) → write.target_after o d ≡ d
 block_stays (write.refused k) d f = refl
@@ -85,32 +70,32 @@ cast_stays k masks pictures w h n clear list frame f = rw (ne_eqb k 0 f) (refl, 
 
 -- ---- answers of two parts
 
-object_parts : (a : Pointed) → Parts (point.number a) (point.value a) (pointed_word a)
-object_parts (pointed.Object o) = record { whole = refl; alone = λ f. absurd (f refl) }
-object_parts pointed.Nothing = record { whole = refl; alone = λ f. refl }
-object_parts (pointed.Refused n) = record { whole = refl; alone = λ f. refl }
+object_parts : (a : Result (Option ℕ) ℕ) → Parts (point.number a) (point.value a) (pointed_word a)
+object_parts (Ok (Some o)) = record { whole = refl; alone = λ f. absurd (f refl) }
+object_parts (Ok None) = record { whole = refl; alone = λ f. refl }
+object_parts (Err n) = record { whole = refl; alone = λ f. refl }
 
-hidden_parts : (a : Answer) → Parts (hidden.number a) (hidden.value a) (hidden_word a)
-hidden_parts (answer.Hidden is) = record { whole = refl; alone = λ f. absurd (f refl) }
-hidden_parts (answer.Refused n) = record { whole = refl; alone = λ f. refl }
+hidden_parts : (a : Result Bool ℕ) → Parts (hidden.number a) (hidden.value a) (hidden_word a)
+hidden_parts (Ok is) = record { whole = refl; alone = λ f. absurd (f refl) }
+hidden_parts (Err n) = record { whole = refl; alone = λ f. refl }
 
-start_parts : (a : Started) → Parts (start.number a) (start.value a) (started_word a)
-start_parts started.Set = record { whole = refl; alone = λ f. absurd (f refl) }
-start_parts started.Undefined = record { whole = refl; alone = λ f. refl }
-start_parts (started.Refused n) = record { whole = refl; alone = λ f. refl }
+start_parts : (a : Result Started ℕ) → Parts (start.number a) (start.value a) (started_word a)
+start_parts (Ok Set) = record { whole = refl; alone = λ f. absurd (f refl) }
+start_parts (Ok Undefined) = record { whole = refl; alone = λ f. refl }
+start_parts (Err n) = record { whole = refl; alone = λ f. refl }
 
-draws_parts : (a : Drawn) → Parts (limb.number a) (limb.value a) (drawn_word a)
-draws_parts (drawn.Picture p) = record { whole = refl; alone = λ f. absurd (f refl) }
-draws_parts drawn.Nothing = record { whole = refl; alone = λ f. refl }
-draws_parts (drawn.Refused n) = record { whole = refl; alone = λ f. refl }
+draws_parts : (a : Result (Option ℕ) ℕ) → Parts (limb.number a) (limb.value a) (drawn_word a)
+draws_parts (Ok (Some p)) = record { whole = refl; alone = λ f. absurd (f refl) }
+draws_parts (Ok None) = record { whole = refl; alone = λ f. refl }
+draws_parts (Err n) = record { whole = refl; alone = λ f. refl }
 
-write_parts : (a : Wrote) → Parts (write.number a) (write.value a) (wrote_word a)
-write_parts (wrote.Block size) = record { whole = refl; alone = λ f. absurd (f refl) }
-write_parts (wrote.Refused n) = record { whole = refl; alone = λ f. refl }
+write_parts : (a : Result ℕ ℕ) → Parts (write.number a) (write.value a) (wrote_word a)
+write_parts (Ok size) = record { whole = refl; alone = λ f. absurd (f refl) }
+write_parts (Err n) = record { whole = refl; alone = λ f. refl }
 
-compare_parts : (a : Compared) → Parts (compare.number a) (compare.value a) (compared_word a)
-compare_parts (compared.Listed count) = record { whole = refl; alone = λ f. absurd (f refl) }
-compare_parts (compared.Refused n) = record { whole = refl; alone = λ f. refl }
+compare_parts : (a : Result ℕ ℕ) → Parts (compare.number a) (compare.value a) (compared_word a)
+compare_parts (Ok count) = record { whole = refl; alone = λ f. absurd (f refl) }
+compare_parts (Err n) = record { whole = refl; alone = λ f. refl }
 
 -- ---- draws, hides and take-backs
 
@@ -118,15 +103,15 @@ module _ (s : List ℕ) (b : play.Lent) where
   abbrev held : room.Room → State
   held r = state_of (decoded s r) b.session b.pixels b.masks
 
-  right_stays : (r : room.Room) (c : Call) → Refusing (called (decoded s r) (held r) c).number → play.after_by s b c (tested.Right r) ≡ b
+  right_stays : (r : room.Room) (c : Call) → Refusing (called (decoded s r) (held r) c).number → play.after_by s b c (Ok r) ≡ b
   right_stays r c f =
       let e = called-refused (decoded s r) (held r) c f in
       let stored = kept-refused b.session c (called (decoded s r) (held r) c) f in
       λ i. record { session = stored i; pixels = (e i).surfaces.pixels; masks = (e i).surfaces.masks }
 
-  call_stays : (c : Call) (t : Tested) → Refusing (play.number_by s b c t) → play.after_by s b c t ≡ b
-  call_stays c (tested.Right r) f = right_stays r c f
-  call_stays c (tested.Refused n) f = refl
+  call_stays : (c : Call) (t : Result Room ℕ) → Refusing (play.number_by s b c t) → play.after_by s b c t ≡ b
+  call_stays c (Ok r) f = right_stays r c f
+  call_stays c (Err n) f = refl
 
 pub demand1 : Demand1
 demand1 =

@@ -1,12 +1,11 @@
 -- Demand 2 holds, and what change requests 2 and 5 say of strips, by the laws of crates bits, limbs, costume, actor and block_writer and of the files
 -- beside this one.
-use Rattle.std.proofs.Common.{◌≡◌, refl, sym, ap, ◌∙◌, Bool, true, false, cond, List, ◌++◌, ◌↔◌, ℕ, ◌-◌, ◌/◌, ◌<◌, arith, eqb, length, drop, eq-eqb}
+use Rattle.std.proofs.Common.{◌≡◌, refl, sym, ap, ◌∙◌, Bool, true, false, cond, List, ◌++◌, ◌↔◌, ℕ, ◌-◌, ◌/◌, ◌<◌, arith, eqb, length, drop, eq-eqb, Err}
 use mathlib.Core.Bool.{false≢true}
 use Rattle.number.specs.Buffer.{over}
 use Rattle.bits.proofs.ReaderLaws as reader
 use Rattle.actor.specs.Hidden.{hidden_number, hidden_at, hidden_of, number, hides, value, answered}
 use Rattle.actor.proofs.ActorLaws as actor
-use Rattle.limbs.specs.declared.Drawn.TheVariants.{Refused}
 use Rattle.limbs.specs.Limb.{limb_at, draws, draws_number, drawn_of}
 use Rattle.limbs.specs.Limb as limb
 use Rattle.limbs.proofs.Theorems.{tick-limb}
@@ -39,8 +38,8 @@ limb-draws : (l : List ℕ) (i : ℕ) → limb.number (drawn_of l i) ≡ 0 → d
 unfolding drawn_of
 limb-draws l i ok = go (eqb (draws_number l i) 0) refl ok
   where
-    go : (q : Bool) → eqb (draws_number l i) 0 ≡ q → limb.number (cond q (draws (limb_at l i)) (Refused (draws_number l i))) ≡ 0
-        → cond q (draws (limb_at l i)) (Refused (draws_number l i)) ≡ draws (limb_at l i)
+    go : (q : Bool) → eqb (draws_number l i) 0 ≡ q → limb.number (cond q (draws (limb_at l i)) (Err (draws_number l i))) ≡ 0
+        → cond q (draws (limb_at l i)) (Err (draws_number l i)) ≡ draws (limb_at l i)
     go true e accepted = refl
     go false e accepted = absurd (false≢true (sym e ∙ eq-eqb (draws_number l i) 0 accepted))
 

@@ -1,7 +1,6 @@
 -- Demand 3 holds, from every accepted load on and for every list of calls: crate play's theorem, said of the bytes.
-use Rattle.std.proofs.Common.{ℕ, ◌≡◌, refl, sym, ap, ◌∙◌, Bool, true, false, cond, List, [], ◌∷◌, map, eqb, arith}
+use Rattle.std.proofs.Common.{ℕ, ◌≡◌, refl, sym, ap, ◌∙◌, Bool, true, false, cond, List, [], ◌∷◌, map, eqb, arith, Ok}
 use Rattle.room.specs.declared.Room as bytes
-use Rattle.room.specs.declared.Tested.TheVariants.{Right}
 use Rattle.scene.specs.Painting.{Room}
 use Rattle.scene.specs.Steps.{bare, replay}
 use Rattle.scene.specs.declared.Call.{Call}
@@ -16,7 +15,7 @@ use Rattle.play.proofs.Demand3 as play
 use Rattle.demands.specs.Demand3.{surfaces_in, bytes_before, Restored, LoadHolds, CallHolds, Demand3}
 use Rattle.demands.proofs.Demand1.{demand1}
 
-module _ (s : List ℕ) (r : bytes.Room) (b : Lent) (accepted : test_of s b ≡ Right r) where
+module _ (s : List ℕ) (r : bytes.Room) (b : Lent) (accepted : test_of s b ≡ Ok r) where
   abbrev D : Room
   D = decoded s r
 

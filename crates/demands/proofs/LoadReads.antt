@@ -1,5 +1,5 @@
 -- What a load leaves, byte by byte: pixels and mask bytes as the strips read, the session empty, and every other lent byte as it was.
-use Rattle.std.proofs.Common.{◌≡◌, refl, sym, ap, ◌∙◌, Bool, true, false, List, ℕ, ◌+◌, ◌-◌, ◌*◌, ◌/◌, ◌%◌, ◌≤◌, ◌<◌, le-div_iff_mul-le, mul_comm, arith, length, get_or, replicate}
+use Rattle.std.proofs.Common.{◌≡◌, refl, sym, ap, ◌∙◌, Bool, true, false, List, ℕ, ◌+◌, ◌-◌, ◌*◌, ◌/◌, ◌%◌, ◌≤◌, ◌<◌, le-div_iff_mul-le, mul_comm, arith, length, get_or, replicate, Option, Some, None, Result, Ok}
 use mathlib.Core.Logic.{by_cases}
 use native.Mathlib.Decide.{dec_lt}
 use lib.Arith.{digits_div, digits_mod, digits_lt}
@@ -8,20 +8,15 @@ use Rattle.number.specs.Buffer.{over}
 use Rattle.grid.specs.Grid.{upd, boxed}
 use Rattle.grid.proofs.Upd.{length-upd, get_or-upd}
 use Rattle.grid.proofs.Box.{cell_lt, within-hi, boxed_in, boxed_off}
-use Rattle.block.specs.declared.Found.{Found}
-use Rattle.block.specs.declared.Found.TheVariants.{At, Missing}
 use Rattle.strip.specs.Strip.{Strip, refused, values}
 use Rattle.strip.specs.Picture.{kind_of, source_of, Picture, refusal, picture}
 use Rattle.strip.specs.declared.Kind.TheVariants.{Coded}
 use Rattle.table.specs.Body.{strip_at, rows_at, pixels_of, row_values, pixel_at, mask_at}
 use Rattle.table.specs.Test.{picture_test, rows_test, strip_test}
-use Rattle.table.specs.declared.Test.TheVariants.{Passed}
 use Rattle.table.proofs.BlockLaws.{not-passed, block-strip}
 use Rattle.room.specs.Picture.{plane_in, found_mask}
 use Rattle.room.specs.Test.{strips, with_surfaces}
 use Rattle.room.specs.declared.Room.{Room}
-use Rattle.room.specs.declared.Tested.{Tested}
-use Rattle.room.specs.declared.Tested.TheVariants.{Right}
 use Rattle.room.proofs.PictureLaws.{found-passes}
 use Rattle.room.proofs.TestLaws.{Passes, test-passes, surfaces-long}
 use Rattle.load.specs.Load.{background, mask, loaded_pixels, loaded_masks, session_after, pixels_after, masks_after}
@@ -34,12 +29,12 @@ use Rattle.demands.proofs.StripReads.{raw_pixel, coded_pixel}
 
 -- ---- a strip that passes
 
-strip_read : (p : Picture) → picture_test p ≡ Passed → (j : ℕ)
+strip_read : (p : Picture) → picture_test p ≡ Ok tt → (j : ℕ)
     → (clear : Bool) × (px : List ℕ) × (p ≡ picture clear px) × (get_or (pixels_of p) j 0 ≡ get_or px j 0)
 strip_read (refusal n) passed j = absurd (not-passed n passed)
 strip_read (picture clear px) passed j = (clear, px, refl, refl)
 
-rows_read : (x : Strip) → rows_test x ≡ Passed → (y : ℕ) → (rows : List ℕ) × (x ≡ values rows) × (get_or (row_values x) y 0 ≡ get_or rows y 0)
+rows_read : (x : Strip) → rows_test x ≡ Ok tt → (y : ℕ) → (rows : List ℕ) × (x ≡ values rows) × (get_or (row_values x) y 0 ≡ get_or rows y 0)
 rows_read (refused n) passed y = absurd (not-passed n passed)
 rows_read (values rows) passed y = (rows, refl, refl)
 
@@ -71,7 +66,7 @@ module _ (w h : ℕ) (f : ℕ → ℕ → ℕ → ℕ) (old : List ℕ) where
 
 -- ---- a room that a load accepts
 
-module _ (s : List ℕ) (b : Lent) (r : Room) (accepted : Right r ≡ test_of s b) where
+module _ (s : List ℕ) (b : Lent) (r : Room) (accepted : Ok r ≡ test_of s b) where
   passes : Passes (with_surfaces session_size (length b.session) (length b.pixels) (length b.masks)) s r
   passes = test-passes (with_surfaces session_size (length b.session) (length b.pixels) (length b.masks)) s r accepted
 
@@ -79,14 +74,14 @@ module _ (s : List ℕ) (b : Lent) (r : Room) (accepted : Right r ≡ test_of s 
   long = surfaces-long session_size (length b.session) (length b.pixels) (length b.masks) r passes.enough
 
   pixels_are : (after_load s b).pixels ≡ loaded_pixels s r b.pixels
-  pixels_are = sym (ap (λ (t : Tested). pixels_after s t b.pixels) accepted)
+  pixels_are = sym (ap (λ (t : Result Room ℕ). pixels_after s t b.pixels) accepted)
 
   masks_are : (after_load s b).masks ≡ loaded_masks s r b.masks
-  masks_are = sym (ap (λ (t : Tested). masks_after s t b.masks) accepted)
+  masks_are = sym (ap (λ (t : Result Room ℕ). masks_after s t b.masks) accepted)
 
   session_is : (after_load s b).session ≡ over (replicate session_size 0) b.session
   unfolding emptied
-  session_is = sym (ap (λ (t : Tested). session_after t b.session) accepted)
+  session_is = sym (ap (λ (t : Result Room ℕ). session_after t b.session) accepted)
 
   -- ---- pixels
 
@@ -98,7 +93,7 @@ module _ (s : List ℕ) (b : Lent) (r : Room) (accepted : Right r ≡ test_of s 
     pub left-pixel : get_or (after_load s b).pixels (y * r.width + x) 0 ≡ background s r x y
     left-pixel = ap (λ (l : List ℕ). get_or l (y * r.width + x) 0) pixels_are ∙ loaded-pixel
 
-    strip-right : strip_test false (strips r) r.height s r.smap r.smap_end (x / 8) ≡ Passed
+    strip-right : strip_test false (strips r) r.height s r.smap r.smap_end (x / 8) ≡ Ok tt
     strip-right =
         block-strip false (strips r) r.height s r.smap r.smap_end (background-passes s r passes.pictures) (x / 8)
         (omega (arith, passes.sound.whole))
@@ -149,23 +144,23 @@ module _ (s : List ℕ) (b : Lent) (r : Room) (accepted : Right r ≡ test_of s 
     pub left-mask : get_or (after_load s b).masks (((k - 1) * r.height + y) * strips r + t) 0 ≡ mask s r k t y
     left-mask = ap (λ (l : List ℕ). get_or l (((k - 1) * r.height + y) * strips r + t) 0) masks_are ∙ loaded-mask
 
-    mask_missing : plane_in s r.image r.image_end k ≡ Missing → mask s r k t y ≡ 0
+    mask_missing : plane_in s r.image r.image_end k ≡ None → mask s r k t y ≡ 0
     unfolding mask
-    mask_missing none = ap (λ (f : Found). found_mask (strips r) r.height s f t y) none
+    mask_missing none = ap (λ (f : Option (ℕ × ℕ)). found_mask (strips r) r.height s f t y) none
 
-    mask-found : (from to : ℕ) → plane_in s r.image r.image_end k ≡ At from to → mask s r k t y ≡ get_or
+    mask-found : (from to : ℕ) → plane_in s r.image r.image_end k ≡ Some (from, to) → mask s r k t y ≡ get_or
         (row_values (rows_at (strips r) r.height s from to t)) y 0
     unfolding mask mask_at
-    mask-found from to at = ap (λ (f : Found). found_mask (strips r) r.height s f t y) at
+    mask-found from to at = ap (λ (f : Option (ℕ × ℕ)). found_mask (strips r) r.height s f t y) at
 
-    rows_right : (from to : ℕ) → plane_in s r.image r.image_end k ≡ At from to → rows_test (rows_at (strips r) r.height s from to t) ≡ Passed
+    rows_right : (from to : ℕ) → plane_in s r.image r.image_end k ≡ Some (from, to) → rows_test (rows_at (strips r) r.height s from to t) ≡ Ok tt
     unfolding strip_test
     rows_right from to at =
         block-strip true (strips r) r.height s from to
         (found-passes (strips r) r.height s r.image r.image_end k from to (sym at) (plane-passes s r passes.pictures k one named)) t in-t
 
-    pub masks_read : (plane_in s r.image r.image_end k ≡ Missing → get_or (after_load s b).masks (((k - 1) * r.height + y) * strips r + t) 0 ≡ 0)
-        × ((from to : ℕ) → plane_in s r.image r.image_end k ≡ At from to → (rows : List ℕ) × (rows_at (strips r) r.height s from to t ≡ values rows)
+    pub masks_read : (plane_in s r.image r.image_end k ≡ None → get_or (after_load s b).masks (((k - 1) * r.height + y) * strips r + t) 0 ≡ 0)
+        × ((from to : ℕ) → plane_in s r.image r.image_end k ≡ Some (from, to) → (rows : List ℕ) × (rows_at (strips r) r.height s from to t ≡ values rows)
         × (get_or (after_load s b).masks (((k - 1) * r.height + y) * strips r + t) 0 ≡ get_or rows y 0))
     masks_read = (
       λ none. left-mask ∙ mask_missing none,

@@ -15,7 +15,7 @@
 -- 9. Take back the draw of object 2: the entry that it removed is there again, object 1's, as after 2.
 --
 -- A take-back lowers the count of steps and leaves the bytes of the step; a shown list that gets shorter leaves the bytes past its end.
-use Rattle.std.proofs.Common.{◌≡◌, refl, ap, ◌∙◌, List, [], ◌∷◌, ◌++◌, ℕ}
+use Rattle.std.proofs.Common.{◌≡◌, refl, ap, ◌∙◌, List, [], ◌∷◌, ◌++◌, ℕ, Ok}
 use Rattle.bits.specs.Bits.{low_bits, bits_of}
 use Rattle.grid.specs.Grid.{upd}
 use Rattle.strip.specs.Strip.{decode}
@@ -26,7 +26,6 @@ use Rattle.table.specs.Table.{offset_at, offset_right, offsets_right, table_righ
 use Rattle.table.specs.Body.{body_end, body_of, strip_at, rows_at, pixel_at, mask_at}
 use Rattle.table.specs.Test.{strip_test, leftmost, block_test}
 use Rattle.room.specs.Picture.{plane_test, smap_and_planes_test}
-use Rattle.room.specs.declared.Tested.TheVariants.{Right}
 use Rattle.objects.specs.Object.{object_block}
 use Rattle.load.specs.Load.{background, mask}
 use Rattle.image.specs.Image.{object_id, has_id, first_of, image_block, image_count, home_x, home_y, image_width, image_height, state_block, drawable}
@@ -172,10 +171,10 @@ start = load_is.1
 
 -- the call c on the bytes `before`, in a room that passes its test: its number, and the bytes that it leaves
 abbrev Gives : (before : Lent) → Call → ℕ → (after : Lent) → Type 0
-Gives before c n after = (number_by room before c (Right sizes) ≡ n) × (after_by room before c (Right sizes) ≡ after)
+Gives before c n after = (number_by room before c (Ok sizes) ≡ n) × (after_by room before c (Ok sizes) ≡ after)
 
 -- the same of the bytes that the calls cs have left
-next : (cs : List Call) (before : Lent) (c : Call) (n : ℕ) (after : Lent) → test_of room before ≡ Right sizes
+next : (cs : List Call) (before : Lent) (c : Call) (n : ℕ) (after : Lent) → test_of room before ≡ Ok sizes
     → bytes_after room given cs ≡ before → Gives before c n after → Answered cs c n after
 unfolding after_all bytes.played
 next cs before c n after passes reached gives = (

@@ -1,6 +1,6 @@
 -- The room of PlayedCalls, byte for byte, and what kg_load leaves of it: 16 by 2 pixels, 1 plane, and three objects whose images are one strip
 -- wide. The load is accepted, which is all that demand 3 asks. Each lent buffer has a byte more than the calls need, 0xEE, which stays.
-use Rattle.std.proofs.Common.{◌≡◌, refl, List, [], ◌∷◌, ◌++◌, ℕ, ◌-◌, length, replicate}
+use Rattle.std.proofs.Common.{◌≡◌, refl, List, [], ◌∷◌, ◌++◌, ℕ, ◌-◌, length, replicate, Ok}
 use Rattle.number.specs.Buffer.{over}
 use Rattle.bits.specs.Bits.{low_bits, bits_of}
 use Rattle.grid.specs.Grid.{upd, within, boxed}
@@ -16,7 +16,6 @@ use Rattle.room.specs.Head.{headed_in, background_in, needed_in, objects_right, 
 use Rattle.room.specs.Picture.{plane_test, smap_and_planes_test}
 use Rattle.room.specs.Test.{pictures_test, short, after_head, room_test}
 use Rattle.room.specs.declared.Room.{Room}
-use Rattle.room.specs.declared.Tested.TheVariants.{Right}
 use Rattle.load.specs.Load.{background, mask, loaded_pixels, loaded_masks}
 use Rattle.stored.specs.Bytes.{emptied}
 use Rattle.play.specs.Bytes.{Lent, lent, test_of, after_load}
@@ -113,7 +112,7 @@ abbrev pub loaded : Lent
 loaded = lent (session_with 0 0 [] []) (pixels_with (replicate 8 0x05) (replicate 8 0x7E)) (masks_with 0x81 0x0F)
 
 -- the load is accepted with these sizes, and leaves these bytes
-pub load_is : (test_of room given ≡ Right sizes) × (after_load room given ≡ loaded)
+pub load_is : (test_of room given ≡ Ok sizes) × (after_load room given ≡ loaded)
 unfolding low_bits bits_of decode five_from kind_of placed coded_of strip_of rows_of container block_end walk run block_ok well_formed tagged payload each_has
     offset_at offset_right offsets_right table_right body_end body_of strip_at rows_at strip_test leftmost block_test headed_in background_in needed_in
     objects_right trns_in sizes_right room_of sized head_of plane_test smap_and_planes_test pictures_test short after_head room_test upd within boxed pixel_at

@@ -1,10 +1,8 @@
 -- The numbers of a comparison: A's, B's, 16 and 4, each exactly when.
-use Rattle.std.proofs.Common.{◌≡◌, refl, sym, ap, ◌∙◌, subst, List, ◌⊎◌, inl, inr, ◌↔◌, ℕ, ◌≤◌, arith}
+use Rattle.std.proofs.Common.{◌≡◌, refl, sym, ap, ◌∙◌, subst, List, ◌⊎◌, inl, inr, ◌↔◌, ℕ, ◌≤◌, arith, Result, Ok, Err}
 use mathlib.Core.Bool.{false≢true}
 use Rattle.room.specs.Test.{short, room_test, number_of, nothing}
 use Rattle.room.specs.declared.Room.{Room}
-use Rattle.room.specs.declared.Tested.{Tested}
-use Rattle.room.specs.declared.Tested.TheVariants.{Right, Refused}
 use Rattle.compare.specs.Compare.{rooms, Outcome, no, ok, outcome_of, compared_of, answer_of, number}
 use Rattle.compare.proofs.OutcomeLaws as outcome
 use Rattle.demands.specs.Numbers.{UpToOr}
@@ -19,7 +17,7 @@ module _ (s : List ℕ) where
   no-four e = let (r, head, lacks) = (room.four nothing s).0 e in false≢true lacks
 
   -- a refused room's number
-  pub refused-number : (n : ℕ) → room_test nothing s ≡ Refused n → (1 ≤ n) × (n ≤ 8) × (n ≡ 4 → ⊥)
+  pub refused-number : (n : ℕ) → room_test nothing s ≡ Err n → (1 ≤ n) × (n ≤ 8) × (n ≡ 4 → ⊥)
   refused-number n e =
       let is = room.number_is nothing s n (subst (room.Verdict nothing s) e (room.verdict nothing s)) in
       (is.0, is.1, λ four. no-four (ap number_of e ∙ four))
@@ -58,7 +56,7 @@ module _ (a b : List ℕ) (size : ℕ) where
       go n (inr (inr (inr v))) = inl (omega (arith, v.0))
 
   -- the other way
-  by_rooms : (ra rb : Room) → room_test nothing a ≡ Right ra → room_test nothing b ≡ Right rb → (o : Outcome)
+  by_rooms : (ra rb : Room) → room_test nothing a ≡ Ok ra → room_test nothing b ≡ Ok rb → (o : Outcome)
       → outcome_of (rooms a ra b rb) size ≡ o → compare_number a b size ≡ number (answer_of o)
   by_rooms ra rb first second o e = ap (λ (p : Outcome). number (answer_of p)) (outcome.both_right a b size ra first rb second ∙ e)
 
@@ -102,12 +100,12 @@ module _ (a b : List ℕ) (size : ℕ) where
   abbrev RoomSays : ℕ → Type 0
   RoomSays n = (number_of (room_test nothing a) ≡ n) ⊎ ((number_of (room_test nothing a) ≡ 0) × (number_of (room_test nothing b) ≡ n))
 
-  passes : (s : List ℕ) → number_of (room_test nothing s) ≡ 0 → (r : Room) × (room_test nothing s ≡ Right r)
+  passes : (s : List ℕ) → number_of (room_test nothing s) ≡ 0 → (r : Room) × (room_test nothing s ≡ Ok r)
   passes s e = go (room_test nothing s) refl e
     where
-      go : (t : Tested) → room_test nothing s ≡ t → number_of t ≡ 0 → (r : Room) × (room_test nothing s ≡ Right r)
-      go (Right r) is zero = (r, is)
-      go (Refused n) is zero = absurd (omega (arith, (refused-number s n is).0, zero))
+      go : (t : Result Room ℕ) → room_test nothing s ≡ t → number_of t ≡ 0 → (r : Room) × (room_test nothing s ≡ Ok r)
+      go (Ok r) is zero = (r, is)
+      go (Err n) is zero = absurd (omega (arith, (refused-number s n is).0, zero))
 
   pub compare_rooms : (n : ℕ) → 1 ≤ n → n ≤ 8 → (n ≡ 4 → ⊥) → (compare_number a b size ≡ n) ↔ RoomSays n
   compare_rooms n some few four = (λ e. go (compare_number a b size) said e, back)

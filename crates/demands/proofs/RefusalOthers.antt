@@ -1,12 +1,10 @@
 -- The numbers of the calls that take no room: the hidden-pixel question, the stamp, costumes and the writers.
-use Rattle.std.proofs.Common.{◌≡◌, refl, sym, ap, ◌∙◌, subst, Bool, true, false, cond, ◌&&◌, not, List, ◌⊎◌, inl, inr, ◌↔◌, ℕ, ◌*◌, ◌/◌, ◌≤◌, ◌<◌, arith, ltb, leb, eqb, length, eqb-true}
+use Rattle.std.proofs.Common.{◌≡◌, refl, sym, ap, ◌∙◌, subst, Bool, true, false, cond, ◌&&◌, not, List, ◌⊎◌, inl, inr, ◌↔◌, ℕ, ◌*◌, ◌/◌, ◌≤◌, ◌<◌, arith, ltb, leb, eqb, length, eqb-true, Option, Some, None, Result, Ok, Err}
 use Rattle.actor.specs.Sizes.{sizes_fit, picture_fits, mask_bytes, buffers_fit}
 use Rattle.actor.specs.Hidden.{hidden_at, hidden_number, hidden_of}
 use Rattle.actor.specs.Hidden as actor
 use Rattle.actor.specs.Stamp.{stamp_number}
 use Rattle.actor.proofs.ActorLaws.{number-answered}
-use Rattle.limbs.specs.declared.Drawn.TheVariants as drawn
-use Rattle.limbs.specs.declared.Drawn.{Drawn}
 use Rattle.limbs.specs.Limb.{flag, limb_at, places_right, limbs_right, draws, draws_number, drawn_of}
 use Rattle.limbs.specs.Limb as limb
 use Rattle.limbs.specs.Tick.{command_right, stream, tick_number}
@@ -206,7 +204,7 @@ module _ (s l : List ℕ) (t count v chore direction : ℕ) where
   start_numbers = subst CostumeNumbers (sym start-chain) (costume_numbers (ltb (length l) 256) start_right)
 
 -- the question whether a limb draws
-draws-accepted : (x : Drawn) → limb.number x ≡ 0 → (n : ℕ) (zero : Bool) → eqb n 0 ≡ zero → limb.number (cond zero x (drawn.Refused n)) ≡ n
+draws-accepted : (x : Result (Option ℕ) ℕ) → limb.number x ≡ 0 → (n : ℕ) (zero : Bool) → eqb n 0 ≡ zero → limb.number (cond zero x (Err n)) ≡ n
 draws-accepted x ok n true e = ok ∙ sym (eqb-true n 0 e)
 draws-accepted x ok n false e = refl
 
@@ -218,7 +216,7 @@ module _ (l : List ℕ) (i : ℕ) where
   unfolding draws
   no_number = go (flag (limb_at l i).active && not (flag (limb_at l i).stopped) && flag (limb_at l i).shows)
     where
-      go : (q : Bool) → limb.number (cond q (drawn.Picture (limb_at l i).picture) drawn.Nothing) ≡ 0
+      go : (q : Bool) → limb.number (cond q (Ok (Some (limb_at l i).picture)) (Ok None)) ≡ 0
       go true = refl
       go false = refl
 

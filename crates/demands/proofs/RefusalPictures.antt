@@ -1,17 +1,13 @@
 -- Which pictures are refused with 5 to 8: the first bad block, by its table or at its leftmost bad strip.
-use Rattle.std.proofs.Common.{◌≡◌, refl, sym, ap, ap₂, ◌∙◌, subst, Bool, true, false, cond, List, ◌⊎◌, inl, inr, ◌↔◌, ℕ, zero, suc, ◌+◌, ◌≤◌, ◌<◌, arith, eqb, replicate}
+use Rattle.std.proofs.Common.{◌≡◌, refl, sym, ap, ap₂, ◌∙◌, subst, Bool, true, false, cond, List, ◌⊎◌, inl, inr, ◌↔◌, ℕ, zero, suc, ◌+◌, ◌≤◌, ◌<◌, arith, eqb, replicate, Option, Some, None, Result, Ok, Err}
 use mathlib.Core.Logic.{by_cases}
 use native.Mathlib.Decide.{ℕ_discrete}
-use Rattle.block.specs.declared.Found.{Found}
-use Rattle.block.specs.declared.Found.TheVariants.{At, Missing}
 use Rattle.strip.specs.Strip.{Strip, refused, values}
 use Rattle.strip.specs.Picture as strip
 use Rattle.plane.specs.Mask.{rows_of, literals}
 use Rattle.table.specs.Table.{offset_at, bodiless, table_right}
 use Rattle.table.specs.Body.{body_of, strip_at, rows_at}
 use Rattle.table.specs.Test.{number, and_then, picture_test, rows_test, strip_test, leftmost, block_test}
-use Rattle.table.specs.declared.Test.{Test}
-use Rattle.table.specs.declared.Test.TheVariants.{Passed, Refused}
 use Rattle.table.proofs.BlockLaws.{not-passed, leftmost-each}
 use Rattle.room.specs.Picture.{plane_in, plane_found, plane_test, smap_and_planes_test}
 use Rattle.demands.specs.PictureRefusals.{UnknownCode, BytesRunOut, PassesEnd, StripFault, BlockFault, Picture, is_plane, block_at, found_test, AtStrip}
@@ -22,64 +18,64 @@ use Rattle.demands.proofs.RefusalPlanes as mask
 
 -- ---- the first refusal of a row of tests
 
-pub same_number : (n m : ℕ) → Refused n ≡ Refused m → n ≡ m
+pub same_number : (n m : ℕ) → ◌≡◌ {A = Result (Unit {0}) ℕ} (Err n) (Err m) → n ≡ m
 same_number n m e = cc
 
-first_of : (a b : Test) (r : ℕ) → and_then a b ≡ Refused r → (a ≡ Refused r) ⊎ ((a ≡ Passed) × (b ≡ Refused r))
-first_of Passed b r e = inr (refl, e)
-first_of (Refused n) b r e = inl e
+first_of : (a b : Result (Unit {0}) ℕ) (r : ℕ) → and_then a b ≡ Err r → (a ≡ Err r) ⊎ ((a ≡ Ok tt) × (b ≡ Err r))
+first_of (Ok tt) b r e = inr (refl, e)
+first_of (Err n) b r e = inl e
 
-module _ (test : ℕ → Test) where
+module _ (test : ℕ → Result (Unit {0}) ℕ) where
   abbrev First : (k m r : ℕ) → Type 0
-  First k m r = (t : ℕ) × (k ≤ t) × (t < k + m) × ((j : ℕ) → k ≤ j → j < t → test j ≡ Passed) × (test t ≡ Refused r)
+  First k m r = (t : ℕ) × (k ≤ t) × (t < k + m) × ((j : ℕ) → k ≤ j → j < t → test j ≡ Ok tt) × (test t ≡ Err r)
 
-  first_more : (k m r : ℕ) → test k ≡ Passed → First (k + 1) m r → First k (suc m) r
+  first_more : (k m r : ℕ) → test k ≡ Ok tt → First (k + 1) m r → First k (suc m) r
   first_more k m r here (t, le, lt, before, e) = (
     t,
     omega arith,
     omega arith,
-    λ j low high. by_cases (ℕ_discrete k j) (λ same. subst (λ (i : ℕ). test i ≡ Passed) same here) (λ other. before j (omega (arith, other)) high),
+    λ j low high. by_cases (ℕ_discrete k j) (λ same. subst (λ (i : ℕ). test i ≡ Ok tt) same here) (λ other. before j (omega (arith, other)) high),
     e,
   )
 
-  leftmost-first : (m k r : ℕ) → leftmost test k m ≡ Refused r → First k m r
+  leftmost-first : (m k r : ℕ) → leftmost test k m ≡ Err r → First k m r
   unfolding leftmost
   leftmost-first zero k r e = absurd (not-passed r (sym e))
   leftmost-first (suc m) k r e = go (first_of (test k) (leftmost test (k + 1) m) r e) (leftmost-first m (k + 1) r)
     where
-      go : (test k ≡ Refused r) ⊎ ((test k ≡ Passed) × (leftmost test (k + 1) m ≡ Refused r)) → (leftmost test (k + 1) m ≡ Refused r → First (k + 1) m r)
+      go : (test k ≡ Err r) ⊎ ((test k ≡ Ok tt) × (leftmost test (k + 1) m ≡ Err r)) → (leftmost test (k + 1) m ≡ Err r → First (k + 1) m r)
           → First k (suc m) r
       go (inl here) later = (k, omega arith, omega arith, λ j low high. absurd (omega arith), here)
       go (inr (here, there)) later = first_more k m r here (later there)
 
-  first-leftmost : (m k r t : ℕ) → k ≤ t → t < k + m → ((j : ℕ) → k ≤ j → j < t → test j ≡ Passed) → test t ≡ Refused r → leftmost test k m ≡ Refused r
+  first-leftmost : (m k r t : ℕ) → k ≤ t → t < k + m → ((j : ℕ) → k ≤ j → j < t → test j ≡ Ok tt) → test t ≡ Err r → leftmost test k m ≡ Err r
   unfolding leftmost
   first-leftmost zero k r t le lt before e = absurd (omega arith)
   first-leftmost (suc m) k r t le lt before e =
       by_cases (ℕ_discrete k t)
-      (λ same. ap (λ (a : Test). and_then a (leftmost test (k + 1) m)) (subst (λ (i : ℕ). test i ≡ Refused r) (sym same) e))
+      (λ same. ap (λ (a : Result (Unit {0}) ℕ). and_then a (leftmost test (k + 1) m)) (subst (λ (i : ℕ). test i ≡ Err r) (sym same) e))
       (λ other.
-      ap (λ (a : Test). and_then a (leftmost test (k + 1) m)) (before k (omega arith) (omega (arith, other)))
+      ap (λ (a : Result (Unit {0}) ℕ). and_then a (leftmost test (k + 1) m)) (before k (omega arith) (omega (arith, other)))
       ∙ first-leftmost m (k + 1) r t (omega (arith, other)) (omega arith) (λ j low high. before j (omega arith) high) e)
 
-passed-all : (test : ℕ → Test) (m k : ℕ) → ((i : ℕ) → i < k + m → test i ≡ Passed) → leftmost test k m ≡ Passed
+passed-all : (test : ℕ → Result (Unit {0}) ℕ) (m k : ℕ) → ((i : ℕ) → i < k + m → test i ≡ Ok tt) → leftmost test k m ≡ Ok tt
 unfolding leftmost
 passed-all test zero k e = refl
 passed-all test (suc m) k e =
-    ap (λ (a : Test). and_then a (leftmost test (k + 1) m)) (e k (omega arith)) ∙ passed-all test m (k + 1) (λ i lt. e i (omega arith))
+    ap (λ (a : Result (Unit {0}) ℕ). and_then a (leftmost test (k + 1) m)) (e k (omega arith)) ∙ passed-all test m (k + 1) (λ i lt. e i (omega arith))
 
-leftmost-same : (f g : ℕ → Test) (m k : ℕ) → ((j : ℕ) → k ≤ j → f j ≡ g j) → leftmost f k m ≡ leftmost g k m
+leftmost-same : (f g : ℕ → Result (Unit {0}) ℕ) (m k : ℕ) → ((j : ℕ) → k ≤ j → f j ≡ g j) → leftmost f k m ≡ leftmost g k m
 unfolding leftmost
 leftmost-same f g zero k e = refl
 leftmost-same f g (suc m) k e = ap₂ and_then (e k (omega arith)) (leftmost-same f g m (k + 1) (λ j le. e j (omega arith)))
 
 -- ---- a strip
 
-picture-number : (p : strip.Picture) (r : ℕ) → picture_test p ≡ Refused r → p ≡ strip.refusal r
+picture-number : (p : strip.Picture) (r : ℕ) → picture_test p ≡ Err r → p ≡ strip.refusal r
 picture-number (strip.refusal n) r e = ap strip.refusal (same_number n r e)
 picture-number (strip.picture clear xs) r e = absurd (not-passed r (sym e))
 
-rows_number : (x : Strip) (r : ℕ) → rows_test x ≡ Refused r → x ≡ refused r
+rows_number : (x : Strip) (r : ℕ) → rows_test x ≡ Err r → x ≡ refused r
 rows_number (refused n) r e = ap refused (same_number n r e)
 rows_number (values xs) r e = absurd (not-passed r (sym e))
 
@@ -104,7 +100,7 @@ module _ (n h : ℕ) (s : List ℕ) (b z k r : ℕ) where
 
   rows_bad : (none : Bool) → eqb (offset_at true s b k) 0 ≡ none
       → rows_test (cond none (values (replicate h 0)) (rows_of (body_of true n s b z k) h (literals 0)))
-      ≡ Refused r
+      ≡ Err r
       → Faulty true
   rows_bad true none e = absurd (not-passed r (sym e))
   rows_bad false none e = (
@@ -113,12 +109,12 @@ module _ (n h : ℕ) (s : List ℕ) (b z k r : ℕ) where
         (rows_number (rows_of (body_of true n s b z k) h (literals 0)) r e)),
   )
 
-  strip-fault : (mask : Bool) → strip_test mask n h s b z k ≡ Refused r → Faulty mask
+  strip-fault : (mask : Bool) → strip_test mask n h s b z k ≡ Err r → Faulty mask
   unfolding strip_test strip_at rows_at
   strip-fault false e = (refl, pixel.bad_strip h (body_of false n s b z k) r (picture-number (strip_at n h s b z k) r e))
   strip-fault true e = rows_bad (eqb (offset_at true s b k) 0) refl e
 
-  fault-test : (mask : Bool) → Faulty mask → strip_test mask n h s b z k ≡ Refused r
+  fault-test : (mask : Bool) → Faulty mask → strip_test mask n h s b z k ≡ Err r
   unfolding strip_test strip_at rows_at
   fault-test false (none, bad) = ap picture_test (fault-strip h (body_of false n s b z k) r bad)
   fault-test true (none, bad) =
@@ -131,40 +127,40 @@ module _ (mask : Bool) (n h : ℕ) (s : List ℕ) (b z r : ℕ) where
   abbrev Bad : Type 0
   Bad = BlockFault mask n h s b z r
 
-  block_bad : (right : Bool) → table_right mask n s b z ≡ right → cond right (leftmost (strip_test mask n h s b z) 0 n) (Refused 5) ≡ Refused r → Bad
+  block_bad : (right : Bool) → table_right mask n s b z ≡ right → cond right (leftmost (strip_test mask n h s b z) 0 n) (Err 5) ≡ Err r → Bad
   block_bad false right e = inl (same_number r 5 (sym e), right)
   block_bad true right e =
       let found = leftmost-first (strip_test mask n h s b z) n 0 r e in
       let bad = strip-fault n h s b z found.0 r mask found.4 in
       inr (right, (found.0, omega (arith, found.2), λ j lt. found.3 j (omega arith) lt, bad.0, bad.1))
 
-  pub block-fault : block_test mask n h s b z ≡ Refused r → Bad
+  pub block-fault : block_test mask n h s b z ≡ Err r → Bad
   unfolding block_test
   block-fault e = block_bad (table_right mask n s b z) refl e
 
-  pub fault-block : Bad → block_test mask n h s b z ≡ Refused r
+  pub fault-block : Bad → block_test mask n h s b z ≡ Err r
   unfolding block_test
-  fault-block (inl (e, wrong)) = ap (λ (q : Bool). cond q (leftmost (strip_test mask n h s b z) 0 n) (Refused 5)) wrong ∙ ap Refused (sym e)
+  fault-block (inl (e, wrong)) = ap (λ (q : Bool). cond q (leftmost (strip_test mask n h s b z) 0 n) (Err 5)) wrong ∙ ap Err (sym e)
   fault-block (inr (right, (k, lt, before, body, bad))) =
-      ap (λ (q : Bool). cond q (leftmost (strip_test mask n h s b z) 0 n) (Refused 5)) right
+      ap (λ (q : Bool). cond q (leftmost (strip_test mask n h s b z) 0 n) (Err 5)) right
       ∙ first-leftmost (strip_test mask n h s b z) n 0 r k (omega arith) (omega arith) (λ j low. before j) (fault-test n h s b z k r mask (body, bad))
 
 pub strip-refused : (mask : Bool) (n h : ℕ) (s : List ℕ) (b z k r : ℕ)
-    → (strip_test mask n h s b z k ≡ Refused r) ↔ ((bodiless mask (offset_at mask s b k) ≡ false) × StripFault mask h (body_of mask n s b z k) r)
+    → (strip_test mask n h s b z k ≡ Err r) ↔ ((bodiless mask (offset_at mask s b k) ≡ false) × StripFault mask h (body_of mask n s b z k) r)
 strip-refused mask n h s b z k r = (strip-fault n h s b z k r mask, fault-test n h s b z k r mask)
 
-pub block_refused : (mask : Bool) (n h : ℕ) (s : List ℕ) (b z r : ℕ) → (block_test mask n h s b z ≡ Refused r) ↔ BlockFault mask n h s b z r
+pub block_refused : (mask : Bool) (n h : ℕ) (s : List ℕ) (b z r : ℕ) → (block_test mask n h s b z ≡ Err r) ↔ BlockFault mask n h s b z r
 block_refused mask n h s b z r = (block-fault mask n h s b z r, fault-block mask n h s b z r)
 
 -- ---- a picture
 
 module _ (s : List ℕ) (p : Picture) where
-  abbrev pub test : Test
+  abbrev pub test : Result (Unit {0}) ℕ
   test = smap_and_planes_test p.planes p.width p.height s p.start p.end p.smap p.last
 
-  plane-same : (n h : ℕ) (f : Found) → plane_found n h s f ≡ found_test true n h s f
-  plane-same n h (At b z) = refl
-  plane-same n h Missing = refl
+  plane-same : (n h : ℕ) (f : Option (ℕ × ℕ)) → plane_found n h s f ≡ found_test true n h s f
+  plane-same n h (Some (b, z)) = refl
+  plane-same n h None = refl
 
   later_same : (j : ℕ) → 1 ≤ j → plane_test p.width p.height s p.start p.end j ≡ page.picture_test s p j
   unfolding plane_test page.picture_test
@@ -182,32 +178,32 @@ module _ (s : List ℕ) (p : Picture) where
   Wrong r =
       ((r ≡ 5) × TableWrong s p) ⊎ ((r ≡ 6) × AtStrip s p UnknownCode) ⊎ ((r ≡ 7) × AtStrip s p BytesRunOut) ⊎ ((r ≡ 8) × AtStrip s p PassesEnd)
 
-  module _ (r i b z : ℕ) (few : i ≤ p.planes) (before : (j : ℕ) → j < i → page.picture_test s p j ≡ Passed) (at : block_at s p i ≡ At b z) where
+  module _ (r i b z : ℕ) (few : i ≤ p.planes) (before : (j : ℕ) → j < i → page.picture_test s p j ≡ Ok tt) (at : block_at s p i ≡ Some (b, z)) where
     wrong_block : BlockFault (is_plane i) p.width p.height s b z r → Wrong r
     wrong_block (inl (e, wrong)) = inl (e, (i, b, z, few, before, at, wrong))
     wrong_block (inr (right, (k, lt, left, body, inl (e, bad)))) = inr (inl (e, (i, b, z, few, before, at, (right, (k, lt, left, body, bad)))))
     wrong_block (inr (right, (k, lt, left, body, inr (inl (e, bad))))) = inr (inr (inl (e, (i, b, z, few, before, at, (right, (k, lt, left, body, bad))))))
     wrong_block (inr (right, (k, lt, left, body, inr (inr (e, bad))))) = inr (inr (inr (e, (i, b, z, few, before, at, (right, (k, lt, left, body, bad))))))
 
-    picture-refused : BlockFault (is_plane i) p.width p.height s b z r → test ≡ Refused r
+    picture-refused : BlockFault (is_plane i) p.width p.height s b z r → test ≡ Err r
     unfolding page.picture_test
     picture-refused bad =
         in_order
         ∙ first-leftmost (page.picture_test s p) (suc p.planes) 0 r i (omega arith) (omega arith) (λ j low. before j)
         (ap (found_test (is_plane i) p.width p.height s) at ∙ fault-block (is_plane i) p.width p.height s b z r bad)
 
-  found_wrong : (r i : ℕ) → i ≤ p.planes → ((j : ℕ) → j < i → page.picture_test s p j ≡ Passed) → (f : Found) → block_at s p i ≡ f
-      → found_test (is_plane i) p.width p.height s f ≡ Refused r → Wrong r
-  found_wrong r i few before (At b z) at e = wrong_block r i b z few before at (block-fault (is_plane i) p.width p.height s b z r e)
-  found_wrong r i few before Missing at e = absurd (not-passed r (sym e))
+  found_wrong : (r i : ℕ) → i ≤ p.planes → ((j : ℕ) → j < i → page.picture_test s p j ≡ Ok tt) → (f : Option (ℕ × ℕ)) → block_at s p i ≡ f
+      → found_test (is_plane i) p.width p.height s f ≡ Err r → Wrong r
+  found_wrong r i few before (Some (b, z)) at e = wrong_block r i b z few before at (block-fault (is_plane i) p.width p.height s b z r e)
+  found_wrong r i few before None at e = absurd (not-passed r (sym e))
 
-  pub refused_wrong : (r : ℕ) → test ≡ Refused r → Wrong r
+  pub refused_wrong : (r : ℕ) → test ≡ Err r → Wrong r
   unfolding page.picture_test
   refused_wrong r e =
       let found = leftmost-first (page.picture_test s p) (suc p.planes) 0 r (sym in_order ∙ e) in
       found_wrong r found.0 (omega (arith, found.2)) (λ j lt. found.3 j (omega arith) lt) (block_at s p found.0) refl found.4
 
-  pub wrong_refused : (r : ℕ) → Wrong r → test ≡ Refused r
+  pub wrong_refused : (r : ℕ) → Wrong r → test ≡ Err r
   wrong_refused r (inl (e, (i, b, z, few, before, at, wrong))) = picture-refused r i b z few before at (inl (e, wrong))
   wrong_refused r (inr (inl (e, (i, b, z, few, before, at, (right, (k, lt, left, body, bad)))))) =
       picture-refused r i b z few before at (inr (right, (k, lt, left, body, inl (e, bad))))
@@ -260,15 +256,15 @@ module _ (s : List ℕ) (p : Picture) where
       go (inr (inr (inr (e, w)))) = w
 
   -- where all blocks pass, nothing is wrong
-  pub all-passed : AllPass s p → test ≡ Passed
+  pub all-passed : AllPass s p → test ≡ Ok tt
   all-passed pass = in_order ∙ passed-all (page.picture_test s p) (suc p.planes) 0 (λ i lt. pass i (omega arith))
 
-  pub passed-each : test ≡ Passed → AllPass s p
+  pub passed-each : test ≡ Ok tt → AllPass s p
   passed-each e i le = leftmost-each (page.picture_test s p) (suc p.planes) 0 (sym in_order ∙ e) i (omega arith) (omega arith)
 
   pub number-zero : number test ≡ 0 → AllPass s p
   number-zero e = passed-each (go test refl e)
     where
-      go : (t : Test) → test ≡ t → number t ≡ 0 → test ≡ Passed
-      go Passed is e = is
-      go (Refused n) is e = absurd (omega (arith, (wrong_number n (refused_wrong n is)).0))
+      go : (t : Result (Unit {0}) ℕ) → test ≡ t → number t ≡ 0 → test ≡ Ok tt
+      go (Ok tt) is e = is
+      go (Err n) is e = absurd (omega (arith, (wrong_number n (refused_wrong n is)).0))

@@ -1,6 +1,6 @@
 -- Which strips of masks are refused with 7 and 8 (document 01, "Strips of masks"): at the first operation that passes the end, or whose bytes are
 -- missing.
-use Rattle.std.proofs.Common.{◌≡◌, sym, ap, ◌∙◌, List, [], ◌++◌, ◌⊎◌, inl, inr, ℕ, zero, suc, ◌+◌, ◌-◌, ◌≤◌, ◌<◌, arith, lt-ltb, le-ltb, length, get_or, take, drop, replicate}
+use Rattle.std.proofs.Common.{◌≡◌, sym, ap, ◌∙◌, List, [], ◌++◌, ◌⊎◌, inl, inr, ℕ, zero, suc, ◌+◌, ◌-◌, ◌≤◌, ◌<◌, arith, lt-ltb, le-ltb, length, get_or, take, drop, replicate, Ok}
 use mathlib.Core.Logic.{by_cases}
 use native.Mathlib.Decide.{dec_lt}
 use Rattle.strip.specs.Strip.{Strip, refused, prepend}
@@ -51,13 +51,13 @@ module _ (body : List ℕ) (at k : ℕ) (pos : 1 ≤ k) where
   abbrev Goes : Type 0
   Goes = (xs : List ℕ) × (ahead ≡ prepend xs (rows_of (drop (at + 1 + bytes_needed op) body) (k - rows_in op) (literals 0)))
 
-  goes-low : (n : ℕ) → rows_in op ≡ n → bytes_needed op ≡ n → RowsAt body at k (Literals n) → Goes
+  goes-low : (n : ℕ) → rows_in op ≡ n → bytes_needed op ≡ n → RowsAt body at k (Ok (Literals n)) → Goes
   goes-low n rows size (le, room, e) = (
     take n (drop (at + 1) body),
     e ∙ (λ i. prepend (take n (drop (at + 1) body)) (rows_of (drop (at + 1 + sym size i) body) (k - sym rows i) (literals 0))),
   )
 
-  goes-high : (n : ℕ) → rows_in op ≡ n → bytes_needed op ≡ 1 → RowsAt body at k (Copies n) → Goes
+  goes-high : (n : ℕ) → rows_in op ≡ n → bytes_needed op ≡ 1 → RowsAt body at k (Ok (Copies n)) → Goes
   goes-high n rows size (le, room, e) =
       let on : at + 2 ≡ at + 1 + bytes_needed op = omega (arith, size) in (
         replicate n (get_or body (at + 1) 0),

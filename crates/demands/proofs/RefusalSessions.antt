@@ -1,13 +1,11 @@
 -- The numbers of draws, hides and take-backs on lent bytes: the room's, 9, then the step's or the take-back's.
-use Rattle.std.proofs.Common.{◌≡◌, refl, sym, ◌∙◌, subst, Bool, true, false, cond, List, [], ◌∷◌, ◌⊎◌, inl, inr, ◌↔◌, ℕ, ◌+◌, ◌≤◌, ◌<◌, arith, eqb, length}
+use Rattle.std.proofs.Common.{◌≡◌, refl, sym, ◌∙◌, subst, Bool, true, false, cond, List, [], ◌∷◌, ◌⊎◌, inl, inr, ◌↔◌, ℕ, ◌+◌, ◌≤◌, ◌<◌, arith, eqb, length, Some, None, Ok}
 use Rattle.block.specs.Tag.{tag-SMAP}
 use Rattle.block.specs.Tree.{find_tag}
-use Rattle.block.specs.declared.Found.TheVariants.{At, Missing}
 use Rattle.table.specs.Test.{number}
 use Rattle.room.specs.Test.{number_of, with_surfaces}
 use Rattle.room.specs.declared.Lent.{Lent}
 use Rattle.room.specs.declared.Room.{Room}
-use Rattle.room.specs.declared.Tested.TheVariants.{Right}
 use Rattle.image.specs.Image.{state_block, drawable}
 use Rattle.image.specs.Fault.{image_fault}
 use Rattle.scene.specs.declared.Call.{Call}
@@ -72,12 +70,12 @@ module _ (s : List ℕ) (b : play.Lent) where
   abbrev tried_number : Call → Room → ℕ
   tried_number c r = (tried (decoded s r) (held r) c).number
 
-  numbered : (c : Call) (r : Room) (m : ℕ) → (play.number_by s b c (Right r) ≡ m) ↔ (cond (right r) (tried_number c r) 9 ≡ m)
+  numbered : (c : Call) (r : Room) (m : ℕ) → (play.number_by s b c (Ok r) ≡ m) ↔ (cond (right r) (tried_number c r) 9 ≡ m)
   numbered c r m = renamed m (called-number (decoded s r) (held r) c)
 
   -- of a call whose own numbers aren't 9
   pub nine : (c : Call) → ((r : Room) → tried_number c r ≡ 9 → ⊥) → (play.number_of s b c ≡ 9)
-      ↔ ((r : Room) × (play.call_test s b ≡ Right r) × (right r ≡ false))
+      ↔ ((r : Room) × (play.call_test s b ≡ Ok r) × (right r ≡ false))
   nine c other =
       calls.late lent s (play.number_by s b c) (λ n. refl) 9 (λ r. right r ≡ false) (omega arith)
       (λ r e. numbered c r 9 then fails (right r) (tried_number c r) 9 (other r))
@@ -152,7 +150,7 @@ module _ (s : List ℕ) (b : play.Lent) where
         go (inr (inr (inl e))) = omega arith
         go (inr (inr (inr e))) = omega arith
 
-    pub draw_nine : (play.number_of s b draw ≡ 9) ↔ ((r : Room) × (play.call_test s b ≡ Right r) × (right r ≡ false))
+    pub draw_nine : (play.number_of s b draw ≡ 9) ↔ ((r : Room) × (play.call_test s b ≡ Ok r) × (right r ≡ false))
     draw_nine = nine draw not-nine
 
     pub draw_ten : (play.number_of s b draw ≡ 10) ↔ AtSession s b (λ r ss. most_steps ≤ length ss.history)
@@ -182,15 +180,15 @@ module _ (s : List ℕ) (b : play.Lent) where
         ))
 
     pub draw_two : (draw_number s b o st p ≡ 2)
-        ↔ ((number_of (play.call_test s b) ≡ 2) ⊎ AtImage s b o st p (λ r c z. find_tag tag-SMAP s (c + 8) z ≡ Missing))
+        ↔ ((number_of (play.call_test s b) ≡ 2) ⊎ AtImage s b o st p (λ r c z. find_tag tag-SMAP s (c + 8) z ≡ None))
     draw_two = image 2 _ (omega arith) (omega arith) (λ r. images.image_two s r o st)
 
     -- 5 to 8
     pictures : (m : ℕ) (P : Picture → Type 0) → 5 ≤ m → m ≤ 8 → ((i : Picture) → picture.Wrong s i m ↔ P i)
         → (draw_number s b o st p ≡ m) ↔ ((number_of (play.call_test s b) ≡ m) ⊎ AtPicture s b o st p P)
     pictures m P big le only =
-        image m (λ r. (c : ℕ) × (z : ℕ) × (state_block s o st ≡ At c z)
-        × ((smap : ℕ) × (last : ℕ) × (find_tag tag-SMAP s (c + 8) z ≡ At smap last) × P (image_of s r o c z smap last))) (omega arith) le
+        image m (λ r. (c : ℕ) × (z : ℕ) × (state_block s o st ≡ Some (c, z))
+        × ((smap : ℕ) × (last : ℕ) × (find_tag tag-SMAP s (c + 8) z ≡ Some (smap, last)) × P (image_of s r o c z smap last))) (omega arith) le
         (λ r shows.
         images.image_more s r o st m big shows
         then (
@@ -272,7 +270,7 @@ module _ (s : List ℕ) (b : play.Lent) where
     unfolding tried
     hidden_most r = steps.hide_most (decoded s r) _ _ o
 
-    pub hide_nine : (play.number_of s b hide ≡ 9) ↔ ((r : Room) × (play.call_test s b ≡ Right r) × (right r ≡ false))
+    pub hide_nine : (play.number_of s b hide ≡ 9) ↔ ((r : Room) × (play.call_test s b ≡ Ok r) × (right r ≡ false))
     hide_nine = nine hide (λ r e. hidden_few r 9 (omega arith) (omega arith) e)
 
     pub hide_ten : (play.number_of s b hide ≡ 10) ↔ AtSession s b (λ r ss. most_steps ≤ length ss.history)
@@ -306,7 +304,7 @@ module _ (s : List ℕ) (b : play.Lent) where
       go (inl f) = let z : m ≡ 0 = sym e ∙ f in omega arith
       go (inr f) = let z : m ≡ 13 = sym e ∙ f in omega arith
 
-  pub take_back_nine : (play.number_of s b TakeBack ≡ 9) ↔ ((r : Room) × (play.call_test s b ≡ Right r) × (right r ≡ false))
+  pub take_back_nine : (play.number_of s b TakeBack ≡ 9) ↔ ((r : Room) × (play.call_test s b ≡ Ok r) × (right r ≡ false))
   take_back_nine = nine TakeBack (λ r e. taken_few r 9 (omega arith) (omega arith) e)
 
   pub thirteen : (play.number_of s b TakeBack ≡ 13) ↔ AtSession s b (λ r ss. ss.history ≡ [])
@@ -320,7 +318,7 @@ module _ (s : List ℕ) (b : play.Lent) where
 
   -- ---- every call
 
-  pub call-nine : (c : Call) → (play.number_of s b c ≡ 9) ↔ ((r : Room) × (play.call_test s b ≡ Right r) × (right r ≡ false))
+  pub call-nine : (c : Call) → (play.number_of s b c ≡ 9) ↔ ((r : Room) × (play.call_test s b ≡ Ok r) × (right r ≡ false))
   call-nine (Make (Draw o st p)) = draw_nine o st p
   call-nine (Make (Hide o)) = hide_nine o
   call-nine TakeBack = take_back_nine
@@ -330,7 +328,7 @@ module _ (s : List ℕ) (b : play.Lent) where
   step_ten (Hide o) = hide_ten o
 
   pub room-first : (c : Call) (n : ℕ) → 1 ≤ n → number_of (play.call_test s b) ≡ n → play.number_of s b c ≡ n
-  room-first c n some e = (calls.early lent s (play.number_by s b c) (λ m. refl) n (λ r. play.number_by s b c (Right r) ≡ n) some (λ r f. same)).1 (inl e)
+  room-first c n some e = (calls.early lent s (play.number_by s b c) (λ m. refl) n (λ r. play.number_by s b c (Ok r) ≡ n) some (λ r f. same)).1 (inl e)
 
   -- ---- which numbers there are at all
 

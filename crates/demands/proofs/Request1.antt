@@ -1,5 +1,5 @@
 -- Change request 1 holds: the list of two rooms says exactly what differs, and only decoded content counts.
-use Rattle.std.proofs.Common.{ℕ, zero, suc, ◌+◌, ◌-◌, ◌*◌, ◌/◌, ◌%◌, ◌^◌, ◌≤◌, ◌<◌, ◌≡◌, refl, sym, ap, ap₂, ◌∙◌, List, [], ◌∷◌, ◌++◌, ◌↔◌, ◌⊎◌, inl, inr, le_of_suc-le-suc, arith, le-leb, eqb, length, get_or, drop}
+use Rattle.std.proofs.Common.{ℕ, zero, suc, ◌+◌, ◌-◌, ◌*◌, ◌/◌, ◌%◌, ◌^◌, ◌≤◌, ◌<◌, ◌≡◌, refl, sym, ap, ap₂, ◌∙◌, List, [], ◌∷◌, ◌++◌, ◌↔◌, ◌⊎◌, inl, inr, le_of_suc-le-suc, arith, le-leb, eqb, length, get_or, drop, Ok}
 use mathlib.Core.Logic.{by_cases}
 use native.Mathlib.Decide.{ℕ_discrete}
 use Rattle.number.specs.Number.{le16_bytes}
@@ -7,7 +7,6 @@ use Rattle.number.specs.Buffer.{over}
 use Rattle.room.specs.Head.{Sound}
 use Rattle.room.specs.Test.{strips}
 use Rattle.room.specs.declared.Room.{Room}
-use Rattle.room.specs.declared.Tested.TheVariants.{Right}
 use Rattle.play.specs.Bytes.{Lent, test_of, after_load}
 use Rattle.compare.specs.Compare.{declared, Rooms, rooms, most, Difference, difference_at, is_different, differences, place_bytes, list_bytes, Outcome, no, ok}
 use Rattle.compare.specs.Compare.{outcome_of, compared_of, answer_of, list_after, number, value}
@@ -187,7 +186,7 @@ module _ (a b : List ℕ) (ra rb : Room) (right : BothRight a b ra rb) (size : �
 
 -- ---- what a load leaves
 
-row_loaded : (s : List ℕ) (b : Lent) (r : Room) → Right r ≡ test_of s b → (p k y : ℕ) → 1 ≤ p → p ≤ r.planes → k < strips r → y < r.height
+row_loaded : (s : List ℕ) (b : Lent) (r : Room) → Ok r ≡ test_of s b → (p k y : ℕ) → 1 ≤ p → p ≤ r.planes → k < strips r → y < r.height
     → get_or (after_load s b).masks (((p - 1) * r.height + y) * strips r + k) 0 ≡ declared s r p k y
 unfolding declared
 row_loaded s b r accepted p k y one named in-k in-y =

@@ -1,18 +1,14 @@
 -- Change request 9 holds: a room's transparent index is read as the request says, and the painting, the record and the stamp go by it.
-use Rattle.std.proofs.Common.{ℕ, ◌+◌, ◌-◌, ◌/◌, ◌%◌, ◌≤◌, ◌≡◌, refl, sym, ap, ◌∙◌, subst, Bool, true, false, true≢false, not, List, inl, inr, ◌↔◌, arith, eqb-true, eq-eqb, eqb, length, get_or}
+use Rattle.std.proofs.Common.{ℕ, ◌+◌, ◌-◌, ◌/◌, ◌%◌, ◌≤◌, ◌≡◌, refl, sym, ap, ◌∙◌, subst, Bool, true, false, true≢false, not, List, inl, inr, ◌↔◌, arith, eqb-true, eq-eqb, eqb, length, get_or, Option, Some, None, Result, Ok, Err}
 use lib.Bits.{bit_or}
 use Rattle.number.specs.Buffer.{over}
 use Rattle.number.proofs.BoolLaws.{both, and-true}
 use Rattle.block.specs.Tag.{tag-TRNS}
 use Rattle.block.specs.Tree.{find_tag}
-use Rattle.block.specs.declared.Found.{Found}
-use Rattle.block.specs.declared.Found.TheVariants.{At, Missing}
 use Rattle.room.specs.Head.{trns_in, holds_index, index_in, room_of}
 use Rattle.room.specs.Test.{room_test, number_of, fixed_only}
 use Rattle.room.specs.declared.Lent as room
 use Rattle.room.specs.declared.Room.{Room}
-use Rattle.room.specs.declared.Tested.{Tested}
-use Rattle.room.specs.declared.Tested.TheVariants.{Right, Refused}
 use Rattle.objects.specs.Record.{record_bytes, record_test, record_after}
 use Rattle.image.specs.Image.{image_height}
 use Rattle.image.specs.Pixel.{image_strip, image_colour, clear_code, image_clear, image_bits}
@@ -28,19 +24,19 @@ use Rattle.demands.proofs.RefusalRooms as rooms
 
 -- ---- the index
 
-at_same : (f : Found) (b z b' z' : ℕ) → f ≡ At b z → f ≡ At b' z' → b ≡ b'
+at_same : (f : Option (ℕ × ℕ)) (b z b' z' : ℕ) → f ≡ Some (b, z) → f ≡ Some (b', z') → b ≡ b'
 at_same f b z b' z' e e' = ap start (sym e ∙ e')
   where
-    start : Found → ℕ
-    start (At c w) = c
-    start Missing = 0
+    start : Option (ℕ × ℕ) → ℕ
+    start (Some (c, w)) = c
+    start None = 0
 
-at_some : (f : Found) (b z : ℕ) → f ≡ At b z → f ≡ Missing → ⊥
+at_some : (f : Option (ℕ × ℕ)) (b z : ℕ) → f ≡ Some (b, z) → f ≡ None → ⊥
 at_some f b z e e' = true≢false (ap there (sym e ∙ e'))
   where
-    there : Found → Bool
-    there (At c w) = true
-    there Missing = false
+    there : Option (ℕ × ℕ) → Bool
+    there (Some (c, w)) = true
+    there None = false
 
 module _ (s : List ℕ) where
   one_index : (i i' : ℕ) → Index s i → Index s i' → i ≡ i'
@@ -50,22 +46,22 @@ module _ (s : List ℕ) where
   one_index i i' (inr (none, is)) (inl (b, z, at, some, is')) = absurd (at_some (find_tag tag-TRNS s 8 (length s)) b z at none)
   one_index i i' (inr (none, is)) (inr (none', is')) = is ∙ sym is'
 
-  index_is : (f : Found) → find_tag tag-TRNS s 8 (length s) ≡ f → holds_index f ≡ true → Index s (index_in s f)
-  index_is (At b z) at some = inl (b, z, at, (below (b + 8) z).0 some, refl)
-  index_is Missing none some = inr (none, refl)
+  index_is : (f : Option (ℕ × ℕ)) → find_tag tag-TRNS s 8 (length s) ≡ f → holds_index f ≡ true → Index s (index_in s f)
+  index_is (Some (b, z)) at some = inl (b, z, at, (below (b + 8) z).0 some, refl)
+  index_is None none some = inr (none, refl)
 
   sized-index : (r : Room) → Sized s r → Index s r.clear
   unfolding room_of trns_in
   sized-index r (p, (formed, needed, objects, some), is, fits) =
       subst (λ (q : Room). Index s q.clear) is (index_is (find_tag tag-TRNS s 8 (length s)) refl some)
 
-  tested_index : (lent : room.Lent) (r : Room) → room_test lent s ≡ Right r → Index s r.clear
+  tested_index : (lent : room.Lent) (r : Room) → room_test lent s ≡ Ok r → Index s r.clear
   tested_index lent r e = sized-index r ((rooms.accepted lent s r).0 e).0
 
-  recorded : (lent : List ℕ) (t : Tested) → record_test s lent ≡ t → number_of t ≡ 0 → Index s (get_or (record_after t lent) 8 0)
+  recorded : (lent : List ℕ) (t : Result Room ℕ) → record_test s lent ≡ t → number_of t ≡ 0 → Index s (get_or (record_after t lent) 8 0)
   unfolding over record_bytes
-  recorded lent (Right r) e none = tested_index _ r e
-  recorded lent (Refused n) e none =
+  recorded lent (Ok r) e none = tested_index _ r e
+  recorded lent (Err n) e none =
       let size = fixed_only 16 (length lent) in
       absurd (omega (arith, (rooms.number_is size s n (subst (rooms.Verdict size s) e (rooms.verdict size s))).0, none))
 
@@ -138,7 +134,7 @@ module _ (s : List ℕ) (r : Room) (e : Entry) where
 
 -- ---- the request
 
-lacks : (s : List ℕ) (b z : ℕ) → find_tag tag-TRNS s 8 (length s) ≡ At b z → z ≤ b + 8 → holds_index (trns_in s) ≡ false
+lacks : (s : List ℕ) (b z : ℕ) → find_tag tag-TRNS s 8 (length s) ≡ Some (b, z) → z ≤ b + 8 → holds_index (trns_in s) ≡ false
 unfolding trns_in
 lacks s b z at none = rw at ((not-below (b + 8) z).1 none)
 

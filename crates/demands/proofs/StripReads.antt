@@ -1,5 +1,5 @@
 -- What the pixels of raw strips and of coded ones are, and what a run gives (change request 5), from the laws of crates bits and strip.
-use Rattle.std.proofs.Common.{◌≡◌, refl, sym, ap, ◌∙◌, Bool, true, false, List, [], ◌∷◌, ◌++◌, inl, inr, ℕ, zero, suc, ◌+◌, ◌-◌, ◌*◌, ◌/◌, ◌%◌, ◌^◌, ◌≤◌, ◌<◌, arith, length, get_or, take, drop, replicate, take-suc, get_or-take, get_or-drop}
+use Rattle.std.proofs.Common.{◌≡◌, refl, sym, ap, ◌∙◌, Bool, true, false, List, [], ◌∷◌, ◌++◌, inl, inr, ℕ, zero, suc, ◌+◌, ◌-◌, ◌*◌, ◌/◌, ◌%◌, ◌^◌, ◌≤◌, ◌<◌, arith, length, get_or, take, drop, replicate, take-suc, get_or-take, get_or-drop, Ok}
 use mathlib.Core.Logic.{by_cases}
 use native.Mathlib.Decide.{dec_lt}
 use Rattle.bits.specs.Bits.{low_bits, got, pull}
@@ -12,7 +12,6 @@ use Rattle.strip.proofs.StripLaws.{decode_op, decode-past, decode-refuse}
 use Rattle.strip.proofs.PictureLaws.{get_or-up_to, raw_short, raw_full, coded_none, coded_some, strip-none, strip-some}
 use Rattle.table.specs.Body.{pixels_of}
 use Rattle.table.specs.Test.{picture_test}
-use Rattle.table.specs.declared.Test.TheVariants.{Passed}
 use Rattle.table.proofs.BlockLaws.{not-passed}
 use Rattle.demands.specs.Demand2.{operations}
 use Rattle.demands.specs.Request5.{run_head, RunGives}
@@ -54,7 +53,7 @@ raw_some [] code = absurd (omega (arith, code))
 raw_some (c ∷ t) code = omega arith
 
 -- a pixel of a raw strip that passes
-pub raw_pixel : (h : ℕ) (s : List ℕ) → get_or s 0 0 ≡ 0x01 → picture_test (strip_of h s) ≡ Passed → (j : ℕ) → j < 8 * h
+pub raw_pixel : (h : ℕ) (s : List ℕ) → get_or s 0 0 ≡ 0x01 → picture_test (strip_of h s) ≡ Ok tt → (j : ℕ) → j < 8 * h
     → get_or (pixels_of (strip_of h s)) j 0 ≡ get_or s (1 + j) 0
 raw_pixel h s code passed j lt =
     let some = raw_some s code in
@@ -71,7 +70,7 @@ placed-pixel : (vertical : Bool) (h : ℕ) (xs : List ℕ) (j : ℕ) → j < 8 *
 unfolding placed
 placed-pixel vertical h xs j lt = get_or-up_to (λ i. get_or xs (source_of vertical h i) 0) (8 * h) j lt
 
-shown-pixel : (vertical clear : Bool) (h : ℕ) (x : Strip) → picture_test (shown vertical clear h x) ≡ Passed → (j : ℕ) → j < 8 * h
+shown-pixel : (vertical clear : Bool) (h : ℕ) (x : Strip) → picture_test (shown vertical clear h x) ≡ Ok tt → (j : ℕ) → j < 8 * h
     → (xs : List ℕ) × (x ≡ values xs) × (get_or (pixels_of (shown vertical clear h x)) j 0 ≡ get_or xs (source_of vertical h j) 0)
 shown-pixel vertical clear h (refused n) passed j lt = absurd (not-passed n passed)
 shown-pixel vertical clear h (values xs) passed j lt = (xs, refl, placed-pixel vertical h xs j lt)
@@ -89,7 +88,7 @@ module _ (second vertical clear : Bool) (w h : ℕ) (s : List ℕ) (kind : kind_
       strip-some h s (omega arith) ∙ ap (λ (k : Kind). by_kind h (drop 1 s) k) kind ∙ coded_some second vertical clear w h s many
 
   -- a pixel of a coded strip that passes
-  pub coded_pixel : picture_test (strip_of h s) ≡ Passed → (j : ℕ) → j < 8 * h
+  pub coded_pixel : picture_test (strip_of h s) ≡ Ok tt → (j : ℕ) → j < 8 * h
       → (xs : List ℕ) × (operations second w h s ≡ values xs) × (get_or (pixels_of (strip_of h s)) j 0 ≡ get_or xs (source_of vertical h j) 0)
   coded_pixel passed j lt =
       by_cases (dec_lt (length s) 2)

@@ -1,10 +1,9 @@
 -- What accepted calls of the writer leave, as blocks of one room: the background, and planes 1 to n.
-use Rattle.std.proofs.Common.{◌≡◌, refl, sym, ap, ◌∙◌, subst, true, false, List, ◌++◌, ℕ, suc, ◌+◌, ◌*◌, ◌/◌, ◌≤◌, ◌<◌, mul_comm, arith, length}
+use Rattle.std.proofs.Common.{◌≡◌, refl, sym, ap, ◌∙◌, subst, true, false, List, ◌++◌, ℕ, suc, ◌+◌, ◌*◌, ◌/◌, ◌≤◌, ◌<◌, mul_comm, arith, length, Ok}
 use Rattle.strip_writer.proofs.PixelLaws.{Bytes}
 use Rattle.block_writer.specs.Block.{body_for, smap_tag, plane_tag, smap_block, plane_block}
 use Rattle.block_writer.specs.Call.{smap_outcome, plane_outcome, answer_of, target_after}
 use Rattle.block_writer.specs.Reads.{SmapReads, PlaneReads}
-use Rattle.block_writer.specs.declared.Wrote.TheVariants.{Block}
 use Rattle.block_writer.proofs.CallLaws.{Sizes, length-block}
 use Rattle.block_writer.proofs.BackLaws.{size_few, length-smap}
 use Rattle.block_writer.proofs.ReadBack.{Accepted, front, smap-accepted, smap-call-reads_in, smap-few, plane-accepted, plane-call-reads_in, plane-short, smap-reads_in, plane-reads_in}
@@ -48,7 +47,7 @@ every w h n rows planes allowed few bytes some some_rows =
 
 -- ---- an accepted call
 
-module _ (w h : ℕ) (rows d : List ℕ) (len : ℕ) (answer : Block len ≡ answer_of (smap_outcome w h rows (length d))) where
+module _ (w h : ℕ) (rows d : List ℕ) (len : ℕ) (answer : Ok len ≡ answer_of (smap_outcome w h rows (length d))) where
   abbrev smap : List ℕ
   smap = smap_written w h rows d len
 
@@ -75,7 +74,7 @@ module _ (w h : ℕ) (rows d : List ℕ) (len : ℕ) (answer : Block len ≡ ans
   smap-most : length smap ≤ 262664
   smap-most = omega (arith, smap-long, smap-few w h rows d (target_after (smap_outcome w h rows (length d)) d) len answer refl)
 
-module _ (k w h : ℕ) (rows d : List ℕ) (len : ℕ) (answer : Block len ≡ answer_of (plane_outcome k w h rows (length d))) where
+module _ (k w h : ℕ) (rows d : List ℕ) (len : ℕ) (answer : Ok len ≡ answer_of (plane_outcome k w h rows (length d))) where
   abbrev plane : List ℕ
   plane = plane_written k w h rows d len
 
@@ -101,9 +100,9 @@ module _ (k w h : ℕ) (rows d : List ℕ) (len : ℕ) (answer : Block len ≡ a
 
 -- both together
 module _ (w h n : ℕ) (rows : List ℕ) (planes : ℕ → List ℕ) (target : List ℕ) (targets : ℕ → List ℕ) (len : ℕ) (lens : ℕ → ℕ)
-    (answer : Block len ≡ answer_of (smap_outcome w h rows (length target)))
-    (answers : (k : ℕ) → 1 ≤ k → k ≤ n → Block (lens k) ≡ answer_of (plane_outcome k w h (planes k) (length (targets k)))) where
-  each : (k : ℕ) → k < n → Block (lens (suc k)) ≡ answer_of (plane_outcome (suc k) w h (planes (suc k)) (length (targets (suc k))))
+    (answer : Ok len ≡ answer_of (smap_outcome w h rows (length target)))
+    (answers : (k : ℕ) → 1 ≤ k → k ≤ n → Ok (lens k) ≡ answer_of (plane_outcome k w h (planes k) (length (targets k)))) where
+  each : (k : ℕ) → k < n → Ok (lens (suc k)) ≡ answer_of (plane_outcome (suc k) w h (planes (suc k)) (length (targets (suc k))))
   each k lt = answers (suc k) (omega arith) lt
 
   pub written : Bytes rows

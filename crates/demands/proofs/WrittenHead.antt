@@ -1,18 +1,13 @@
 -- The least room's blocks around any picture: refusals 1 to 3 of it, and where its parts stand. SMAP stands from byte 48 on.
-use Rattle.std.proofs.Common.{◌≡◌, refl, sym, ap, ap₂, ◌∙◌, Bool, true, false, List, [], ◌++◌, ℕ, zero, suc, ◌+◌, ◌-◌, ◌≤◌, ◌<◌, zero-le, arith, le-leb, eq-eqb, lit<, length, get_or, length-append}
+use Rattle.std.proofs.Common.{◌≡◌, refl, sym, ap, ap₂, ◌∙◌, Bool, true, false, List, [], ◌++◌, ℕ, zero, suc, ◌+◌, ◌-◌, ◌≤◌, ◌<◌, zero-le, arith, le-leb, eq-eqb, lit<, length, get_or, length-append, Option, Some, None}
 use Rattle.number.specs.Number.{be32, be32_bytes}
 use Rattle.number.proofs.BoolLaws.{and-true}
 use Rattle.block.specs.Tag.{container, tag-ROOM, tag-RMHD, tag-RMIM, tag-RMIH, tag-IM00, tag-SMAP, tag-OBCD, tag-CDHD, tag-OBIM, tag-IMHD, tag-TRNS}
 use Rattle.block.specs.Tree.{block_end, block_ok, list_ok, well_formed, tagged, find_tag, each_has, all_of, has_in}
-use Rattle.block.specs.declared.Found.{Found}
-use Rattle.block.specs.declared.Found.TheVariants.{At, Missing}
 use Rattle.block.proofs.Laws.{payload-long}
 use Rattle.block.proofs.ListLaws.{Stands, stands_end, leaf_right, container-right, list_right, none-tagged, find_first}
 use Rattle.room.specs.Head.{when_found, both_found, headed_in, with_header, background_in, needed_in, objects_right, trns_in}
-use Rattle.room.specs.declared.Headed.{Headed}
-use Rattle.room.specs.declared.Headed.TheVariants.{Both}
 use Rattle.room.specs.declared.Parts.{Parts}
-use Rattle.room.specs.declared.Needed.TheVariants as needed
 use Rattle.demands.specs.Written.{block}
 use Rattle.demands.proofs.WrittenBlocks.{Held, held_all, held-left, held-right, length-of, block_stands, payload-held}
 
@@ -67,10 +62,10 @@ module _ (t u : ℕ) (s : List ℕ) (a b e : ℕ) (one : Stands t s a b) (two : 
       each (suc zero) lt = q
       each (suc (suc j)) lt = absurd (omega arith)
 
-  find_one : find_tag t s a e ≡ At a b
+  find_one : find_tag t s a e ≡ Some (a, b)
   find_one = find_first s 2 (pair_tag t u) (pair_at a b e) both_stand 0 (omega arith) (λ j lt. absurd (omega arith))
 
-  find_two : (t ≡ u → ⊥) → find_tag u s a e ≡ At b e
+  find_two : (t ≡ u → ⊥) → find_tag u s a e ≡ Some (b, e)
   find_two other = find_first s 2 (pair_tag t u) (pair_at a b e) both_stand 1 (omega arith) before
     where
       before : (j : ℕ) → j < 1 → pair_tag t u j ≡ u → ⊥
@@ -85,7 +80,7 @@ module _ (t u : ℕ) (s : List ℕ) (a b e : ℕ) (one : Stands t s a b) (two : 
       others (suc j) lt = q
 
   -- a header of n bytes or more and the block beside it
-  headed_pair : (n : ℕ) → (t ≡ u → ⊥) → n ≤ b - (a + 8) → headed_in t n u s a e ≡ Both (a + 8) (b + 8) e
+  headed_pair : (n : ℕ) → (t ≡ u → ⊥) → n ≤ b - (a + 8) → headed_in t n u s a e ≡ Some (a + 8, b + 8, e)
   unfolding headed_in
   headed_pair n other long =
       ap₂ both_found (sym (payload-long n a b (find_tag t s a e) (sym find_one) long))
@@ -187,18 +182,18 @@ module _ (header count body : List ℕ) (six : length header ≡ 6) (two : lengt
   parts smap smap-end =
       record { header = 16; image_header = 38; image = 48; image_end = length room; smap = smap; smap_end = smap-end }
 
-  pub needed_found : (smap smap-end : ℕ) → find_tag tag-SMAP room 48 (length room) ≡ At smap smap-end
-      → needed_in room ≡ needed.All (parts smap smap-end)
+  pub needed_found : (smap smap-end : ℕ) → find_tag tag-SMAP room 48 (length room) ≡ Some (smap, smap-end)
+      → needed_in room ≡ Some (parts smap smap-end)
   unfolding needed_in background_in
   needed_found smap smap-end found =
       let end = length room in
       let outer = headed_pair tag-RMHD tag-RMIM room 8 22 end header_stands image_stands 6 (λ e. omega (arith, e)) (omega arith) in
       let inner = headed_pair tag-RMIH tag-IM00 room 30 40 end count_stands state_stands 2 (λ e. omega (arith, e)) (omega arith) in
-      ap (λ (q : Headed). with_header q λ hd im im-end. background_in room hd im im-end) outer
-      ∙ ap (λ (q : Headed). with_header q λ ih bg bg-end. when_found (find_tag tag-SMAP room bg bg-end) λ sm sm-end.
-      needed.All (record { header = 16; image_header = ih; image = bg; image_end = bg-end; smap = sm; smap_end = sm-end })) inner
-      ∙ ap (λ (q : Found). when_found q λ sm sm-end.
-      needed.All (record { header = 16; image_header = 38; image = 48; image_end = end; smap = sm; smap_end = sm-end })) found
+      ap (λ (q : Option (ℕ × ℕ × ℕ)). with_header q λ hd im im-end. background_in room hd im im-end) outer
+      ∙ ap (λ (q : Option (ℕ × ℕ × ℕ)). with_header q λ ih bg bg-end. when_found (find_tag tag-SMAP room bg bg-end) λ sm sm-end.
+      Some (record { header = 16; image_header = ih; image = bg; image_end = bg-end; smap = sm; smap_end = sm-end })) inner
+      ∙ ap (λ (q : Option (ℕ × ℕ)). when_found q λ sm sm-end.
+      Some (record { header = 16; image_header = 38; image = 48; image_end = end; smap = sm; smap_end = sm-end })) found
 
   -- and no object
   no-objects : tagged tag-OBCD room 8 (length room) ≡ []
@@ -209,10 +204,10 @@ module _ (header count body : List ℕ) (six : length header ≡ 6) (two : lengt
   no_images =
       find_none tag-RMHD tag-RMIM room 8 22 (length room) header_stands image_stands tag-OBIM (λ e. omega (arith, e)) (λ e. omega (arith, e))
 
-  pub trns_none : trns_in room ≡ Missing
+  pub trns_none : trns_in room ≡ None
   unfolding trns_in
   trns_none =
-      ap (λ (l : List Found). get_or l 0 Missing)
+      ap (λ (l : List (Option (ℕ × ℕ))). get_or l 0 None)
       (find_none tag-RMHD tag-RMIM room 8 22 (length room) header_stands image_stands tag-TRNS (λ e. omega (arith, e)) (λ e. omega (arith, e)))
 
   pub objects-none : length (tagged tag-OBCD room 8 (length room)) ≡ 0

@@ -1,9 +1,8 @@
 -- The SMAP block and the blocks of planes 1 to n, one after another from `first` on: they fill their list, and each is found by its tag.
-use Rattle.std.proofs.Common.{◌≡◌, refl, sym, ap, ◌∙◌, subst, true, false, List, ℕ, zero, suc, ◌+◌, ◌≤◌, ◌<◌, add-zero, arith, length}
+use Rattle.std.proofs.Common.{◌≡◌, refl, sym, ap, ◌∙◌, subst, true, false, List, ℕ, zero, suc, ◌+◌, ◌≤◌, ◌<◌, add-zero, arith, length, Some}
 use Rattle.number.specs.Number.{be32_bytes}
 use Rattle.block.specs.Tag.{container, tag-SMAP, tag-ZP}
 use Rattle.block.specs.Tree.{block_ok, list_ok, find_tag}
-use Rattle.block.specs.declared.Found.TheVariants.{At}
 use Rattle.block.proofs.ListLaws.{Stands, leaf_right, list_right, find_first}
 use Rattle.demands.specs.Written.{concat_to}
 
@@ -53,11 +52,11 @@ module _ (s smap : List ℕ) (planes : ℕ → List ℕ) (n first : ℕ) (few : 
         right (suc k) lt =
             leaf_right (tag-ZP (suc k)) s (plane_at k) (plane_at (suc k)) (all_stand (suc k) lt) d (plane_kind (suc k) (omega arith))
 
-    pub smap-found : find_tag tag-SMAP s first (plane_at n) ≡ At first (first + length smap)
+    pub smap-found : find_tag tag-SMAP s first (plane_at n) ≡ Some (first, first + length smap)
     smap-found =
-        find_first s (suc n) tag_of start_of all_stand 0 (omega arith) (λ j lt. absurd (omega arith)) ∙ ap (At first) planes-start
+        find_first s (suc n) tag_of start_of all_stand 0 (omega arith) (λ j lt. absurd (omega arith)) ∙ ap (λ (z : ℕ). Some (first, z)) planes-start
 
-    pub plane-found : (k : ℕ) → k < n → find_tag (tag-ZP (suc k)) s first (plane_at n) ≡ At (plane_at k) (plane_at (suc k))
+    pub plane-found : (k : ℕ) → k < n → find_tag (tag-ZP (suc k)) s first (plane_at n) ≡ Some (plane_at k, plane_at (suc k))
     plane-found k lt = find_first s (suc n) tag_of start_of all_stand (suc k) (omega arith) others
       where
         others : (j : ℕ) → j < suc k → tag_of j ≡ tag-ZP (suc k) → ⊥

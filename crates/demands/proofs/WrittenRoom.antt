@@ -1,22 +1,17 @@
 -- A room made of written blocks is accepted with its sizes, and loads to exactly the rows given: so no reader that refuses everything, that has
 -- one room for all inputs or that writes nothing can answer as document 01 says.
-use Rattle.std.proofs.Common.{◌≡◌, refl, sym, ap, ◌∙◌, Bool, false, cond, List, ℕ, suc, ◌+◌, ◌*◌, ◌/◌, ◌%◌, ◌≤◌, ◌<◌, mul_comm, mul_assoc, mod-lt, div-add-mod', div-lt_iff_lt-mul, arith, le-ltb, length, get_or, take, length-take-le, get_or-take}
+use Rattle.std.proofs.Common.{◌≡◌, refl, sym, ap, ◌∙◌, Bool, false, cond, List, ℕ, suc, ◌+◌, ◌*◌, ◌/◌, ◌%◌, ◌≤◌, ◌<◌, mul_comm, mul_assoc, mod-lt, div-add-mod', div-lt_iff_lt-mul, arith, le-ltb, length, get_or, take, length-take-le, get_or-take, Option, Result, Ok, Err}
 use lib.Arith.{digits_lt}
 use Rattle.number.specs.Buffer.{over}
 use Rattle.strip_writer.proofs.PixelLaws.{Bytes}
 use Rattle.block.specs.Tag.{tag-ZP}
 use Rattle.block.specs.Tree.{find_tag}
-use Rattle.block.specs.declared.Found.{Found}
-use Rattle.table.specs.declared.Test.{Test}
 use Rattle.block_writer.specs.Block.{smap_block, plane_block}
 use Rattle.block_writer.specs.Call.{smap_outcome, plane_outcome, answer_of}
-use Rattle.block_writer.specs.declared.Wrote.TheVariants.{Block}
 use Rattle.block_writer.proofs.CallLaws.{Sizes}
 use Rattle.room.specs.Picture.{found_mask}
 use Rattle.room.specs.Test.{pictures_test, short, room_when_passed, after_head, room_test, with_surfaces}
 use Rattle.room.specs.declared.Room.{Room}
-use Rattle.room.specs.declared.Tested.{Tested}
-use Rattle.room.specs.declared.Tested.TheVariants.{Right, Refused}
 use Rattle.load.specs.Load.{background, mask, loaded_pixels, loaded_masks, pixels_after, masks_after, session_after}
 use Rattle.stored.specs.Layout.{session_size}
 use Rattle.stored.specs.Bytes.{emptied}
@@ -49,13 +44,13 @@ module _ (w h n : ℕ) (rows : List ℕ) (planes : ℕ → List ℕ) (smap : Lis
         )
         refl
 
-    accepted : test_of s b ≡ Right r
+    accepted : test_of s b ≡ Ok r
     unfolding room_test after_head
     accepted =
         let lent = with_surfaces session_size (length b.session) (length b.pixels) (length b.masks) in
         ap (after_head lent s) (test.head_is w h n rows planes smap blocks few by)
-        ∙ ap (λ (q : Bool). cond q (Refused 4) (room_when_passed (pictures_test s r) r)) long
-        ∙ ap (λ (t : Test). room_when_passed t r) (test.pictures_pass w h n rows planes smap blocks few by)
+        ∙ ap (λ (q : Bool). cond q (Err 4) (room_when_passed (pictures_test s r) r)) long
+        ∙ ap (λ (t : Result (Unit {0}) ℕ). room_when_passed t r) (test.pictures_pass w h n rows planes smap blocks few by)
 
     wide : 8 * (w / 8) ≡ w
     wide = omega (arith, by.allowed.even)
@@ -91,7 +86,7 @@ module _ (w h n : ℕ) (rows : List ℕ) (planes : ℕ → List ℕ) (smap : Lis
         let next : k + 1 ≡ suc k = omega arith in
         let inside : y * (w / 8) + t < w / 8 * h = omega (arith, digits_lt hy ht, mul_comm (w / 8) h) in
         ap (λ (j : ℕ). found_mask (w / 8) h s (find_tag (tag-ZP j) s 48 (length s)) t y) next
-        ∙ ap (λ (f : Found). found_mask (w / 8) h s f t y) (test.plane-found w h n rows planes smap blocks few by k lt)
+        ∙ ap (λ (f : Option (ℕ × ℕ)). found_mask (w / 8) h s f t y) (test.plane-found w h n rows planes smap blocks few by k lt)
         ∙ (test.plane-reads w h n rows planes smap blocks few by k lt).row t y ht hy
         ∙ sym (get_or-take (w / 8 * h) (planes (suc k)) (y * (w / 8) + t) 0 inside)
 
@@ -129,15 +124,15 @@ module _ (w h n : ℕ) (rows : List ℕ) (planes : ℕ → List ℕ) (smap : Lis
           height = refl;
           count = refl;
           objects = refl;
-          pixels = ap (λ (t : Tested). pixels_after s t b.pixels) accepted ∙ pixels_are;
-          masks = ap (λ (t : Tested). masks_after s t b.masks) accepted ∙ masks_are;
-          session = ap (λ (t : Tested). session_after t b.session) accepted;
+          pixels = ap (λ (t : Result Room ℕ). pixels_after s t b.pixels) accepted ∙ pixels_are;
+          masks = ap (λ (t : Result Room ℕ). masks_after s t b.masks) accepted ∙ masks_are;
+          session = ap (λ (t : Result Room ℕ). session_after t b.session) accepted;
         }
 
 -- background and planes written by accepted calls, and lent bytes that are long enough
 pub written-room : (w h n : ℕ) (rows : List ℕ) (planes : ℕ → List ℕ) (target : List ℕ) (targets : ℕ → List ℕ) (len : ℕ) (lens : ℕ → ℕ)
-    → n ≤ 4 → Bytes rows → Block len ≡ answer_of (smap_outcome w h rows (length target))
-    → ((k : ℕ) → 1 ≤ k → k ≤ n → Block (lens k) ≡ answer_of (plane_outcome k w h (planes k) (length (targets k))))
+    → n ≤ 4 → Bytes rows → Ok len ≡ answer_of (smap_outcome w h rows (length target))
+    → ((k : ℕ) → 1 ≤ k → k ≤ n → Ok (lens k) ≡ answer_of (plane_outcome k w h (planes k) (length (targets k))))
     → (b : Lent) → session_size ≤ length b.session → w * h ≤ length b.pixels → n * (w / 8) * h ≤ length b.masks
     → Loads w h n rows planes
     (room_around w h n (smap_written w h rows target len) (λ k. plane_written k w h (planes k) (targets k) (lens k))) b

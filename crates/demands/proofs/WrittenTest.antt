@@ -1,12 +1,10 @@
 -- The least room around written blocks passes its whole test: refusals 1 to 3, and 5 to 8 of its background and planes.
-use Rattle.std.proofs.Common.{◌≡◌, refl, sym, ap, ap₂, ◌∙◌, subst, Bool, true, false, cond, List, ◌++◌, ℕ, zero, suc, ◌+◌, ◌/◌, ◌%◌, ◌≤◌, ◌<◌, arith, le-leb, eq-eqb, lit<, length, length-append}
+use Rattle.std.proofs.Common.{◌≡◌, refl, sym, ap, ap₂, ◌∙◌, subst, Bool, true, false, cond, List, ◌++◌, ℕ, zero, suc, ◌+◌, ◌/◌, ◌%◌, ◌≤◌, ◌<◌, arith, le-leb, eq-eqb, lit<, length, length-append, Some, None, Ok, Err}
 use Rattle.number.specs.Number.{le16, le16_bytes}
 use Rattle.block.specs.Tag.{tag-OBCD, tag-SMAP, tag-ZP}
 use Rattle.block.specs.Tree.{list_ok, well_formed, tagged, find_tag}
-use Rattle.block.specs.declared.Found.TheVariants.{At, Missing}
 use Rattle.block.proofs.ListLaws.{Stands}
 use Rattle.table.specs.Test.{and_then}
-use Rattle.table.specs.declared.Test.TheVariants.{Passed}
 use Rattle.block_writer.specs.Block.{smap_tag, plane_tag, body_for}
 use Rattle.block_writer.specs.Reads.{SmapReads, PlaneReads}
 use Rattle.block_writer.proofs.CallLaws.{Sizes}
@@ -14,10 +12,8 @@ use Rattle.block_writer.proofs.PlacedLaws.{leftmost-all}
 use Rattle.room.specs.Head.{needed_in, objects_right, trns_in, holds_index, index_in, sizes_right, room_of, sized, head_in, head_of}
 use Rattle.room.specs.Picture.{plane_found, plane_test, smap_and_planes_test}
 use Rattle.room.specs.Test.{pictures_test}
-use Rattle.room.specs.declared.Needed.TheVariants as needed
 use Rattle.room.specs.declared.Parts.{Parts}
 use Rattle.room.specs.declared.Room.{Room}
-use Rattle.room.specs.declared.Tested.TheVariants.{Right, Refused}
 use Rattle.demands.specs.Written.{concat_to, room_around}
 use Rattle.demands.proofs.WrittenBlocks.{Held, held-left, held-right, held_reads, held-le16, one-held, written_stands}
 use Rattle.demands.proofs.RefusalTests.{both_hold}
@@ -117,10 +113,10 @@ module _ (w h n : ℕ) (rows : List ℕ) (planes : ℕ → List ℕ) (smap : Lis
       (held_reads s (plane_at k) (λ q a z. PlaneReads (suc k) (w / 8) h (planes (suc k)) q a z) (blocks (suc k)) (length (blocks (suc k)))
       (by.plane-reads k lt) (plane-held k lt))
 
-  smap-found : find_tag tag-SMAP s 48 (length s) ≡ At 48 (48 + length smap)
+  smap-found : find_tag tag-SMAP s 48 (length s) ≡ Some (48, 48 + length smap)
   smap-found = ap (find_tag tag-SMAP s 48) s_long ∙ picture.smap-found s smap blocks n 48 few smap_stands plane_stands
 
-  pub plane-found : (k : ℕ) → k < n → find_tag (tag-ZP (suc k)) s 48 (length s) ≡ At (plane_at k) (plane_at (suc k))
+  pub plane-found : (k : ℕ) → k < n → find_tag (tag-ZP (suc k)) s 48 (length s) ≡ Some (plane_at k, plane_at (suc k))
   plane-found k lt = ap (find_tag (tag-ZP (suc k)) s 48) s_long ∙ picture.plane-found s smap blocks n 48 few smap_stands plane_stands k lt
 
   -- ---- refusals 1 to 3
@@ -148,7 +144,7 @@ module _ (w h n : ℕ) (rows : List ℕ) (planes : ℕ → List ℕ) (smap : Lis
   abbrev parts : Parts
   parts = record { header = 16; image_header = 38; image = 48; image_end = length s; smap = 48; smap_end = 48 + length smap }
 
-  needed_found : needed_in s ≡ needed.All parts
+  needed_found : needed_in s ≡ Some parts
   unfolding room_around
   needed_found = head.needed_found header (le16_bytes n) body six (length-le16 n) body_few 48 (48 + length smap) smap-found
 
@@ -156,7 +152,7 @@ module _ (w h n : ℕ) (rows : List ℕ) (planes : ℕ → List ℕ) (smap : Lis
   unfolding room_around
   objects-right = head.objects-right header (le16_bytes n) body six (length-le16 n) body_few
 
-  trns_none : trns_in s ≡ Missing
+  trns_none : trns_in s ≡ None
   unfolding room_around
   trns_none = head.trns_none header (le16_bytes n) body six (length-le16 n) body_few
 
@@ -200,24 +196,24 @@ module _ (w h n : ℕ) (rows : List ℕ) (planes : ℕ → List ℕ) (smap : Lis
         clear = index_in s (trns_none i);
       }
 
-  pub head_is : head_of s ≡ Right r
+  pub head_is : head_of s ≡ Ok r
   unfolding head_of sized
   head_is =
-      ap (λ (q : Bool). cond q (head_in s (needed_in s)) (Refused 1)) formed
+      ap (λ (q : Bool). cond q (head_in s (needed_in s)) (Err 1)) formed
       ∙ ap (head_in s) needed_found
-      ∙ ap (λ (q : Bool). cond q (sized (room_of s parts)) (Refused 2))
+      ∙ ap (λ (q : Bool). cond q (sized (room_of s parts)) (Err 2))
       ((both_hold (objects_right s) (holds_index (trns_in s))).1 (objects-right, ap holds_index trns_none))
       ∙ ap sized room_is
-      ∙ ap (λ (q : Bool). cond q (Right r) (Refused 3)) (sizes-right w h n by.allowed few)
+      ∙ ap (λ (q : Bool). cond q (Ok r) (Err 3)) (sizes-right w h n by.allowed few)
 
   -- ---- the pictures
 
-  planes_pass : (k : ℕ) → 1 ≤ k → k < suc n → plane_test (w / 8) h s 48 (length s) k ≡ Passed
+  planes_pass : (k : ℕ) → 1 ≤ k → k < suc n → plane_test (w / 8) h s 48 (length s) k ≡ Ok tt
   unfolding plane_test
   planes_pass zero one lt = absurd (omega arith)
   planes_pass (suc k) one lt = ap (plane_found (w / 8) h s) (plane-found k (omega arith)) ∙ (plane-reads k (omega arith)).test
 
-  pub pictures_pass : pictures_test s r ≡ Passed
+  pub pictures_pass : pictures_test s r ≡ Ok tt
   unfolding pictures_test smap_and_planes_test
   pictures_pass =
       ap₂ and_then smap-reads.test (leftmost-all 1 (suc n) (plane_test (w / 8) h s 48 (length s)) planes_pass n 1 (omega arith) (omega arith))

@@ -23,7 +23,7 @@ use Rattle.limbs.specs.Tick.{tick_number, tick_bytes}
 use Rattle.limbs.specs.Limb as limb
 use Rattle.block_writer.specs.Call as write
 use Rattle.compare.specs.Compare as compare
-use Rattle.kildegrom.specs.Word.{word, hidden_word, started_word, drawn_word, wrote_word, pointed_word, compared_word}
+use Rattle.answers.specs.Word.{word, hidden_word, started_word, drawn_word, wrote_word, pointed_word, compared_word}
 
 -- a call that isn't accepted
 abbrev pub Refusing : ℕ → Type 0

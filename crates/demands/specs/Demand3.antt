@@ -11,9 +11,8 @@
 --
 -- Change request 9: "demand 3 is over the painting with that index". `decoded` is the room with its own transparent index, the TRNS block's or 255: page
 -- Request9, `paints`, says which pixels of an entry it lets through and which mask rows are joined.
-use Rattle.std.specs.Prelude.{ℕ, ◌≡◌, List, [], ◌∷◌}
+use Rattle.std.specs.Prelude.{ℕ, ◌≡◌, List, [], ◌∷◌, Ok}
 use Rattle.room.specs.declared.Room as bytes
-use Rattle.room.specs.declared.Tested.TheVariants.{Right}
 use Rattle.scene.specs.Painting.{Room, Surfaces, painted}
 use Rattle.scene.specs.Steps.{Scene, bare, replay}
 use Rattle.scene.specs.declared.Call.{Call}
@@ -74,6 +73,6 @@ pub record CallHolds (s : List ℕ) (r : bytes.Room) (b : Lent) (cs : List Call)
 -- for every room s and lent bytes b: kg_load is accepted exactly where the test gives the room's sizes r
 pub record Demand3 : Type 0 where
   -- as the load has just left them
-  pub load : (s : List ℕ) (b : Lent) (r : bytes.Room) → test_of s b ≡ Right r → LoadHolds s r b
+  pub load : (s : List ℕ) (b : Lent) (r : bytes.Room) → test_of s b ≡ Ok r → LoadHolds s r b
   -- after any list of calls, refused ones included, and any next call
-  pub call : (s : List ℕ) (b : Lent) (r : bytes.Room) → test_of s b ≡ Right r → (cs : List Call) (c : Call) → CallHolds s r b cs c
+  pub call : (s : List ℕ) (b : Lent) (r : bytes.Room) → test_of s b ≡ Ok r → (cs : List Call) (c : Call) → CallHolds s r b cs c

@@ -1,9 +1,7 @@
 -- Refusals 5 to 8 in document 01's words ("Numbered refusals"): the first bad block of a picture, "with 5 first and then 6 to 8 at its leftmost bad
 -- strip, at that strip's first bad operation". A picture is a room's background or an object's image.
-use Rattle.std.specs.Prelude.{ℕ, zero, suc, ◌+◌, ◌-◌, ◌*◌, ◌≤◌, ◌<◌, ◌≡◌, Bool, true, false, cond, List, ◌⊎◌, ltb, length, get_or, drop}
+use Rattle.std.specs.Prelude.{ℕ, zero, suc, ◌+◌, ◌-◌, ◌*◌, ◌≤◌, ◌<◌, ◌≡◌, Bool, true, false, cond, List, ◌⊎◌, ltb, length, get_or, drop, Option, Some, None, Result, Ok}
 use Rattle.bits.specs.Bits.{bits_of}
-use Rattle.block.specs.declared.Found.{Found}
-use Rattle.block.specs.declared.Found.TheVariants.{At, Missing}
 use Rattle.strip.specs.Strip.{refuse, go, op_of}
 use Rattle.strip.specs.Picture.{kind_of}
 use Rattle.strip.specs.declared.Kind.TheVariants.{Raw, Coded, Unknown}
@@ -11,8 +9,6 @@ use Rattle.plane.specs.Mask.{rows_in}
 use Rattle.table.specs.Table.{offset_at, bodiless, table_right}
 use Rattle.table.specs.Body.{body_of}
 use Rattle.table.specs.Test.{strip_test, block_test}
-use Rattle.table.specs.declared.Test.{Test}
-use Rattle.table.specs.declared.Test.TheVariants.{Passed}
 use Rattle.room.specs.Picture.{plane_in}
 use Rattle.room.specs.Test.{strips}
 use Rattle.room.specs.declared.Room.{Room}
@@ -93,7 +89,7 @@ StripFault mask h body r = ((r ≡ 6) × UnknownCode mask h body) ⊎ ((r ≡ 7)
 abbrev pub Leftmost : Bool → (n h : ℕ) → List ℕ → (b z : ℕ) → (Bool → ℕ → List ℕ → Type 0) → Type 0
 Leftmost mask n h s b z P =
     (table_right mask n s b z ≡ true)
-    × ((k : ℕ) × (k < n) × ((j : ℕ) → j < k → strip_test mask n h s b z j ≡ Passed) × (bodiless mask (offset_at mask s b k) ≡ false)
+    × ((k : ℕ) × (k < n) × ((j : ℕ) → j < k → strip_test mask n h s b z j ≡ Ok tt) × (bodiless mask (offset_at mask s b k) ≡ false)
     × P mask h (body_of mask n s b z k))
 
 -- what is wrong with a block that is refused with r: 5 first
@@ -115,26 +111,26 @@ abbrev pub is_plane : ℕ → Bool
 is_plane zero = false
 is_plane (suc k) = true
 
-abbrev pub block_at : List ℕ → Picture → ℕ → Found
-block_at s p zero = At p.smap p.last
+abbrev pub block_at : List ℕ → Picture → ℕ → Option (ℕ × ℕ)
+block_at s p zero = Some (p.smap, p.last)
 block_at s p (suc k) = plane_in s p.start p.end (suc k)
 
 -- a missing plane passes
-abbrev pub found_test : Bool → (n h : ℕ) → List ℕ → Found → Test
-found_test mask n h s (At b z) = block_test mask n h s b z
-found_test mask n h s Missing = Passed
+abbrev pub found_test : Bool → (n h : ℕ) → List ℕ → Option (ℕ × ℕ) → Result (Unit {0}) ℕ
+found_test mask n h s (Some (b, z)) = block_test mask n h s b z
+found_test mask n h s None = Ok tt
 
-unfoldable pub picture_test : List ℕ → Picture → ℕ → Test
+unfoldable pub picture_test : List ℕ → Picture → ℕ → Result (Unit {0}) ℕ
 picture_test s p i = found_test (is_plane i) p.width p.height s (block_at s p i)
 
 -- none of 5 to 8 is given
 abbrev pub AllPass : List ℕ → Picture → Type 0
-AllPass s p = (i : ℕ) → i ≤ p.planes → picture_test s p i ≡ Passed
+AllPass s p = (i : ℕ) → i ≤ p.planes → picture_test s p i ≡ Ok tt
 
 -- P holds of block i, which stands in [b, z), and the blocks before it pass
 abbrev pub AtBlock : List ℕ → Picture → (Bool → (b z : ℕ) → Type 0) → Type 0
 AtBlock s p P =
-    (i : ℕ) × (b : ℕ) × (z : ℕ) × (i ≤ p.planes) × ((j : ℕ) → j < i → picture_test s p j ≡ Passed) × (block_at s p i ≡ At b z) × P (is_plane i) b z
+    (i : ℕ) × (b : ℕ) × (z : ℕ) × (i ≤ p.planes) × ((j : ℕ) → j < i → picture_test s p j ≡ Ok tt) × (block_at s p i ≡ Some (b, z)) × P (is_plane i) b z
 
 -- and P holds of its leftmost bad strip
 abbrev pub AtStrip : List ℕ → Picture → (Bool → ℕ → List ℕ → Type 0) → Type 0

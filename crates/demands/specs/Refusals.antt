@@ -1,22 +1,17 @@
 -- Document 01's table "Numbered refusals": each number, "given exactly when". A field says it of what a call's contract promises, and its conditions
 -- name what stands before that number in document 01's order, so the order follows. The table's line stands above the fields of its number.
-use Rattle.std.specs.Prelude.{ℕ, ◌+◌, ◌*◌, ◌/◌, ◌≤◌, ◌<◌, ◌≡◌, Bool, true, false, List, [], ◌↔◌, ◌⊎◌, eqb, length, get_or}
+use Rattle.std.specs.Prelude.{ℕ, ◌+◌, ◌*◌, ◌/◌, ◌≤◌, ◌<◌, ◌≡◌, Bool, true, false, List, [], ◌↔◌, ◌⊎◌, eqb, length, get_or, Some, None, Ok, Err}
 use Rattle.block.specs.Tag.{tag-SMAP}
 use Rattle.block.specs.Tree.{well_formed, find_tag}
-use Rattle.block.specs.declared.Found.TheVariants.{At}
-use Rattle.block.specs.declared.Found.TheVariants as found
 use Rattle.table.specs.Table.{bodiless, table_right}
 use Rattle.table.specs.Table as table
 use Rattle.table.specs.Body.{body_of}
 use Rattle.table.specs.Test.{strip_test, block_test}
-use Rattle.table.specs.declared.Test.TheVariants.{Refused}
 use Rattle.room.specs.Head.{needed_in, objects_right, trns_in, holds_index, sizes_right, room_of}
 use Rattle.room.specs.Test.{strips, short, room_test, number_of, nothing, fixed_only, with_surfaces, with_flags}
 use Rattle.room.specs.declared.Lent.{Lent}
 use Rattle.room.specs.declared.Parts.{Parts}
-use Rattle.room.specs.declared.Needed.TheVariants.{All, Missing}
 use Rattle.room.specs.declared.Room.{Room}
-use Rattle.room.specs.declared.Tested.TheVariants.{Right}
 use Rattle.objects.specs.Record.{record_test}
 use Rattle.objects.specs.Object.{object_block, place_number, header_call}
 use Rattle.objects.specs.Name.{name_number}
@@ -63,7 +58,7 @@ use Rattle.demands.specs.PictureRefusals.{AllPass, picture_of}
 
 -- the bytes are blocks (1), and the needed ones are there (2): p says where
 abbrev pub Blocks : List ℕ → Parts → Type 0
-Blocks s p = (well_formed s ≡ true) × (needed_in s ≡ All p) × (objects_right s ≡ true) × (holds_index (trns_in s) ≡ true)
+Blocks s p = (well_formed s ≡ true) × (needed_in s ≡ Some p) × (objects_right s ≡ true) × (holds_index (trns_in s) ≡ true)
 
 -- what they say of W, H, N and the objects is inside the sizes
 abbrev pub sizes_inside : Room → Bool
@@ -79,7 +74,7 @@ AtRoom lent s P = (r : Room) × Sized s r × (short lent r ≡ false) × P r
 
 -- the room passes its test, and P holds of it
 abbrev pub Passing : Lent → List ℕ → (Room → Type 0) → Type 0
-Passing lent s P = (r : Room) × (room_test lent s ≡ Right r) × P r
+Passing lent s P = (r : Room) × (room_test lent s ≡ Ok r) × P r
 
 -- ---- sessions: kg_draw_last, kg_draw_at, kg_hide, kg_take_back on the lent bytes b
 
@@ -89,7 +84,7 @@ session_in s r b = session_of (decoded s r) b.session
 
 -- the room passes, the session is one that it gives, and P holds
 abbrev pub AtSession : List ℕ → play.Lent → (Room → Session → Type 0) → Type 0
-AtSession s b P = (r : Room) × (play.call_test s b ≡ Right r) × (right_for (decoded s r) (session_in s r b) ≡ true) × P r (session_in s r b)
+AtSession s b P = (r : Room) × (play.call_test s b ≡ Ok r) × (right_for (decoded s r) (session_in s r b) ≡ true) × P r (session_in s r b)
 
 -- and the history has room for a step
 abbrev pub AtStep : List ℕ → play.Lent → (Room → Session → Type 0) → Type 0
@@ -103,7 +98,7 @@ place_allowed s r ss o st p = allowed (decoded s r) (entry_of (scene_of (decoded
 abbrev pub AtImage : List ℕ → play.Lent → (o st : ℕ) → Place → (Room → (b z : ℕ) → Type 0) → Type 0
 AtImage s l o st p P =
     AtStep s l λ r ss.
-    (drawable s o st ≡ true) × (place_allowed s r ss o st p ≡ true) × ((b : ℕ) × (z : ℕ) × (state_block s o st ≡ At b z) × P r b z)
+    (drawable s o st ≡ true) × (place_allowed s r ss o st p ≡ true) × ((b : ℕ) × (z : ℕ) × (state_block s o st ≡ Some (b, z)) × P r b z)
 
 -- the image of object o there, with its SMAP block in [smap, last): "An image has IMHD's width / 8 strips of IMHD's height."
 abbrev pub image_of : List ℕ → Room → (o b z smap last : ℕ) → Picture
@@ -120,7 +115,7 @@ image_of s r o b z smap last =
 
 abbrev pub AtPicture : List ℕ → play.Lent → (o st : ℕ) → Place → (Picture → Type 0) → Type 0
 AtPicture s l o st p P =
-    AtImage s l o st p λ r b z. (smap : ℕ) × (last : ℕ) × (find_tag tag-SMAP s (b + 8) z ≡ At smap last) × P (image_of s r o b z smap last)
+    AtImage s l o st p λ r b z. (smap : ℕ) × (last : ℕ) × (find_tag tag-SMAP s (b + 8) z ≡ Some (smap, last)) × P (image_of s r o b z smap last)
 
 abbrev pub draw_number : List ℕ → play.Lent → (o st : ℕ) → Place → ℕ
 draw_number s b o st p = play.number_of s b (Make (Draw o st p))
@@ -132,7 +127,7 @@ compare_number a b size = compare.number (compare.answer_of (compare.compared_of
 
 -- both rooms pass their tests, and P holds of them
 abbrev pub AtBoth : (a b : List ℕ) → (Room → Room → Type 0) → Type 0
-AtBoth a b P = (ra : Room) × (rb : Room) × (room_test nothing a ≡ Right ra) × (room_test nothing b ≡ Right rb) × P ra rb
+AtBoth a b P = (ra : Room) × (rb : Room) × (room_test nothing a ≡ Ok ra) × (room_test nothing b ≡ Ok rb) × P ra rb
 
 -- how many strips differ
 abbrev pub strips_differing : (a b : List ℕ) → (ra rb : Room) → ℕ
@@ -163,7 +158,7 @@ FirstBad pictures list P =
 pub record Refusals : Type 0 where
   -- 0, accepted: none of 1 to 8 holds of the room
   pub accepted : (lent : Lent) (s : List ℕ) (r : Room)
-      → (room_test lent s ≡ Right r) ↔ (Sized s r × (short lent r ≡ false) × AllPass s (picture_of r))
+      → (room_test lent s ≡ Ok r) ↔ (Sized s r × (short lent r ≡ false) × AllPass s (picture_of r))
   -- and neither 9 to 13 of the call, nor 2 and 5 to 8 of a draw's image
   pub accepted_draw : (s : List ℕ) (l : play.Lent) (o st : ℕ) (p : Place) → (draw_number s l o st p ≡ 0) ↔ AtPicture s l o st p (λ image. AllPass s image)
   pub accepted_hide : (s : List ℕ) (b : play.Lent) (o : ℕ)
@@ -182,14 +177,14 @@ pub record Refusals : Type 0 where
   -- 2: "a needed block is missing or shorter than its fixed fields"
   pub two : (lent : Lent) (s : List ℕ)
       → (number_of (room_test lent s) ≡ 2)
-      ↔ ((well_formed s ≡ true) × ((needed_in s ≡ Missing) ⊎ (objects_right s ≡ false) ⊎ (holds_index (trns_in s) ≡ false)))
-  pub needed_missing : (s : List ℕ) → (needed_in s ≡ Missing) ↔ NeededMissing s
+      ↔ ((well_formed s ≡ true) × ((needed_in s ≡ None) ⊎ (objects_right s ≡ false) ⊎ (holds_index (trns_in s) ≡ false)))
+  pub needed_missing : (s : List ℕ) → (needed_in s ≡ None) ↔ NeededMissing s
   pub object_lacks : (s : List ℕ) → (objects_right s ≡ false) ↔ ObjectLacks s
   -- change request 9: "2 for an empty TRNS payload"
   pub index_lacks : (s : List ℕ) → (holds_index (trns_in s) ≡ false) ↔ IndexLacks s
   pub two_draw : (s : List ℕ) (l : play.Lent) (o st : ℕ) (p : Place)
       → (draw_number s l o st p ≡ 2)
-      ↔ ((number_of (play.call_test s l) ≡ 2) ⊎ AtImage s l o st p (λ r b z. find_tag tag-SMAP s (b + 8) z ≡ found.Missing))
+      ↔ ((number_of (play.call_test s l) ≡ 2) ⊎ AtImage s l o st p (λ r b z. find_tag tag-SMAP s (b + 8) z ≡ None))
   -- 3: "W, H, N, the object count or a picture size is outside the sizes above"
   pub three : (lent : Lent) (s : List ℕ) → (number_of (room_test lent s) ≡ 3) ↔ ((p : Parts) × Blocks s p × (sizes_inside (room_of s p) ≡ false))
   pub out_of_sizes : (r : Room) → (sizes_inside r ≡ false) ↔ OutOfSizes r
@@ -259,11 +254,11 @@ pub record Refusals : Type 0 where
       → (draw_number s l o st p ≡ 8) ↔ ((number_of (play.call_test s l) ≡ 8) ⊎ AtPicture s l o st p (λ image. AtStrip s image PassesEnd))
   -- the strips and blocks before that pass: which strip or block doesn't, and with what number
   pub strip-refused : (mask : Bool) (n h : ℕ) (s : List ℕ) (b z k r : ℕ)
-      → (strip_test mask n h s b z k ≡ Refused r) ↔ ((bodiless mask (table.offset_at mask s b k) ≡ false) × StripFault mask h (body_of mask n s b z k) r)
-  pub block_refused : (mask : Bool) (n h : ℕ) (s : List ℕ) (b z r : ℕ) → (block_test mask n h s b z ≡ Refused r) ↔ BlockFault mask n h s b z r
+      → (strip_test mask n h s b z k ≡ Err r) ↔ ((bodiless mask (table.offset_at mask s b k) ≡ false) × StripFault mask h (body_of mask n s b z k) r)
+  pub block_refused : (mask : Bool) (n h : ℕ) (s : List ℕ) (b z r : ℕ) → (block_test mask n h s b z ≡ Err r) ↔ BlockFault mask n h s b z r
   -- 9: "the session isn't one that this room gives"
   pub nine : (s : List ℕ) (b : play.Lent) (c : Call)
-      → (play.number_of s b c ≡ 9) ↔ ((r : Room) × (play.call_test s b ≡ Right r) × (right_for (decoded s r) (session_in s r b) ≡ false))
+      → (play.number_of s b c ≡ 9) ↔ ((r : Room) × (play.call_test s b ≡ Ok r) × (right_for (decoded s r) (session_in s r b) ≡ false))
   pub other_session : (room : scene.Room) (ss : Session) → (right_for room ss ≡ false) ↔ OtherSession room ss
   pub nine_point : (s session flags : List ℕ) (x y : ℕ)
       → (point.number (pointed_at s session flags x y) ≡ 9)
@@ -277,8 +272,8 @@ pub record Refusals : Type 0 where
   pub eleven_hide : (s : List ℕ) (b : play.Lent) (o : ℕ)
       → (play.number_of s b (Make (Hide o)) ≡ 11) ↔ AtStep s b (λ r ss. some (λ e. eqb e.object o) ss.shown ≡ false)
   pub eleven_header : (s lent : List ℕ) (k : ℕ)
-      → (place_number (header_call s lent k) ≡ 11) ↔ Passing (fixed_only 16 (length lent)) s (λ r. object_block s k ≡ found.Missing)
-  pub eleven_name : (s : List ℕ) (k : ℕ) → (name_number s k ≡ 11) ↔ Passing nothing s (λ r. object_block s k ≡ found.Missing)
+      → (place_number (header_call s lent k) ≡ 11) ↔ Passing (fixed_only 16 (length lent)) s (λ r. object_block s k ≡ None)
+  pub eleven_name : (s : List ℕ) (k : ℕ) → (name_number s k ≡ 11) ↔ Passing nothing s (λ r. object_block s k ≡ None)
   -- 12: "the place isn't allowed"
   pub twelve : (s : List ℕ) (b : play.Lent) (o st : ℕ) (p : Place)
       → (draw_number s b o st p ≡ 12) ↔ AtStep s b (λ r ss. (drawable s o st ≡ true) × (place_allowed s r ss o st p ≡ false))

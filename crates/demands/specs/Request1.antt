@@ -4,12 +4,11 @@
 -- and the counts are those of the pixels."
 --
 -- Said of what the contract of kg_compare promises (crate kildegrom): `compared_of`, `answer_of` and `list_after`. When it is refused: page Refusals.
-use Rattle.std.specs.Prelude.{ℕ, ◌+◌, ◌-◌, ◌*◌, ◌/◌, ◌%◌, ◌^◌, ◌≤◌, ◌<◌, ◌≡◌, List, ◌↔◌, length, get_or}
+use Rattle.std.specs.Prelude.{ℕ, ◌+◌, ◌-◌, ◌*◌, ◌/◌, ◌%◌, ◌^◌, ◌≤◌, ◌<◌, ◌≡◌, List, ◌↔◌, length, get_or, Ok}
 use Rattle.number.specs.Number.{le16}
 use Rattle.number.specs.Buffer.{over}
 use Rattle.room.specs.Test.{strips, room_test, nothing}
 use Rattle.room.specs.declared.Room.{Room}
-use Rattle.room.specs.declared.Tested.TheVariants.{Right}
 use Rattle.load.specs.Load.{background}
 use Rattle.play.specs.Bytes.{Lent, test_of, after_load}
 use Rattle.compare.specs.Compare.{declared, Rooms, rooms, most, pixels_differing, Difference, list_bytes, compared_of, answer_of, list_after, number, value}
@@ -17,7 +16,7 @@ use Rattle.compare.specs.Listed.{Stands, Rising, PlaneDiffers, StripDiffers, Sam
 
 -- both rooms pass the whole test
 abbrev pub BothRight : (a b : List ℕ) → (ra rb : Room) → Type 0
-BothRight a b ra rb = (room_test nothing a ≡ Right ra) × (room_test nothing b ≡ Right rb)
+BothRight a b ra rb = (room_test nothing a ≡ Ok ra) × (room_test nothing b ≡ Ok rb)
 
 -- what a list of places says of two rooms
 pub record Says (m : Rooms) (ds : List Difference) : Type 0 where
@@ -48,9 +47,9 @@ pub record Request1 : Type 0 where
       × (list_after (compared_of a b (length list)) list ≡ over (list_bytes ds) list)
       × ((i : ℕ) (none : Difference) → i < length ds → PlaceReads (list_after (compared_of a b (length list)) list) i (get_or ds i none)))
   -- "Only decoded content counts": what is compared is what kg_load leaves of each room, pixel by pixel and row by row
-  pub pixel-loaded : (s : List ℕ) (b : Lent) (r : Room) → Right r ≡ test_of s b → (x y : ℕ) → x < r.width → y < r.height
+  pub pixel-loaded : (s : List ℕ) (b : Lent) (r : Room) → Ok r ≡ test_of s b → (x y : ℕ) → x < r.width → y < r.height
       → get_or (after_load s b).pixels (y * r.width + x) 0 ≡ background s r x y
-  pub row_loaded : (s : List ℕ) (b : Lent) (r : Room) → Right r ≡ test_of s b → (p k y : ℕ) → 1 ≤ p → p ≤ r.planes → k < strips r → y < r.height
+  pub row_loaded : (s : List ℕ) (b : Lent) (r : Room) → Ok r ≡ test_of s b → (p k y : ℕ) → 1 ≤ p → p ≤ r.planes → k < strips r → y < r.height
       → get_or (after_load s b).masks (((p - 1) * r.height + y) * strips r + k) 0 ≡ declared s r p k y
   -- "an undeclared plane reading as zero"
   pub undeclared : (s : List ℕ) (r : Room) (p k y : ℕ) → r.planes < p → declared s r p k y ≡ 0
@@ -61,7 +60,7 @@ pub record Request1 : Type 0 where
   pub alike : (a b : List ℕ) (ra rb : Room) → BothRight a b ra rb → SameContent a ra b rb → (list : List ℕ)
       → let o = compared_of a b (length list) in (number (answer_of o) ≡ 0) × (value (answer_of o) ≡ 0) × (list_after o list ≡ list)
   -- a room against itself
-  pub itself : (a : List ℕ) (ra : Room) → room_test nothing a ≡ Right ra → (list : List ℕ)
+  pub itself : (a : List ℕ) (ra : Room) → room_test nothing a ≡ Ok ra → (list : List ℕ)
       → let o = compared_of a a (length list) in (number (answer_of o) ≡ 0) × (value (answer_of o) ≡ 0) × (list_after o list ≡ list)
   -- A against B gives what B against A gives
   pub either_order : (a b : List ℕ) (ra rb : Room) → BothRight a b ra rb → (size : ℕ) → compared_of a b size ≡ compared_of b a size

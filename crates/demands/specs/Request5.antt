@@ -1,11 +1,10 @@
 -- Change request 5, in the customer's words: "In a code 01 strip there is no colour byte: source 001 is right, the 8H pixels follow the code
 -- directly. And a second-method run of n gives n pixels, with 0 meaning 256."
-use Rattle.std.specs.Prelude.{ℕ, ◌+◌, ◌-◌, ◌*◌, ◌/◌, ◌%◌, ◌≤◌, ◌<◌, ◌≡◌, Bool, true, false, List, ◌∷◌, ◌++◌, ◌⊎◌, length, get_or, take, replicate}
+use Rattle.std.specs.Prelude.{ℕ, ◌+◌, ◌-◌, ◌*◌, ◌/◌, ◌%◌, ◌≤◌, ◌<◌, ◌≡◌, Bool, true, false, List, ◌∷◌, ◌++◌, ◌⊎◌, length, get_or, take, replicate, Ok}
 use Rattle.bits.specs.Bits.{low_bits}
 use Rattle.strip.specs.Strip.{refused, prepend, decode}
 use Rattle.strip.specs.Picture.{refusal, picture, strip_of}
 use Rattle.room.specs.declared.Room.{Room}
-use Rattle.room.specs.declared.Tested.TheVariants.{Right}
 use Rattle.play.specs.Bytes.{Lent, test_of, after_load}
 use Rattle.demands.specs.Demand2.{body_in}
 
@@ -19,7 +18,7 @@ RunGives n pixels = ((1 ≤ n) × (n ≤ 255) × (pixels ≡ n)) ⊎ ((n ≡ 0) 
 
 pub record Request5 : Type 0 where
   -- kg_load: where a strip's body starts with 01, the pixel in column x, row y is the body's byte 1 + 8y + x mod 8
-  pub raw_loaded : (s : List ℕ) (b : Lent) (r : Room) → Right r ≡ test_of s b → (x y : ℕ) → x < r.width → y < r.height
+  pub raw_loaded : (s : List ℕ) (b : Lent) (r : Room) → Ok r ≡ test_of s b → (x y : ℕ) → x < r.width → y < r.height
       → get_or (body_in s r (x / 8)) 0 0 ≡ 0x01
       → get_or (after_load s b).pixels (y * r.width + x) 0 ≡ get_or (body_in s r (x / 8)) (1 + 8 * y + x % 8) 0
   -- and of every strip, an image's too: 7 for fewer than 1 + 8H bytes, else its pixels are the 8H bytes after the code, and opaque

@@ -1,10 +1,9 @@
 -- Refusals 1, 2, 3, 5 and 9, and what 11 and 12 say of a draw, in document 01's words ("Numbered refusals", "Sizes", "Blocks", "Sessions"): what it is
 -- that the tests which the page Refusals names find wrong.
-use Rattle.std.specs.Prelude.{ℕ, suc, ◌+◌, ◌-◌, ◌*◌, ◌%◌, ◌≤◌, ◌<◌, ◌≡◌, Bool, true, false, List, ◌∷◌, ◌++◌, ◌⊎◌, length}
+use Rattle.std.specs.Prelude.{ℕ, suc, ◌+◌, ◌-◌, ◌*◌, ◌%◌, ◌≤◌, ◌<◌, ◌≡◌, Bool, true, false, List, ◌∷◌, ◌++◌, ◌⊎◌, length, Some, None}
 use Rattle.number.specs.Number.{be32}
 use Rattle.block.specs.Tag.{container, tag-ROOM, tag-RMHD, tag-RMIM, tag-RMIH, tag-IM00, tag-SMAP, tag-OBCD, tag-CDHD, tag-OBIM, tag-IMHD, tag-TRNS}
 use Rattle.block.specs.Tree.{block_end, find_tag, nth_tag, need_tag}
-use Rattle.block.specs.declared.Found.TheVariants.{At, Missing}
 use Rattle.table.specs.Table.{table_end, offset_at, bodiless}
 use Rattle.room.specs.declared.Room.{Room}
 use Rattle.image.specs.Image.{object_count, image_block, image_count, state_block}
@@ -43,20 +42,20 @@ NotOneRoom s =
 -- in RMIM's payload [im, e): RMIH with 2 bytes, IM00, and SMAP in it
 abbrev pub BackgroundMissing : List ℕ → (im e : ℕ) → Type 0
 BackgroundMissing s im e =
-    (need_tag tag-RMIH 2 s im e ≡ Missing)
-    ⊎ (need_tag tag-IM00 0 s im e ≡ Missing)
-    ⊎ ((b : ℕ) × (z : ℕ) × (need_tag tag-IM00 0 s im e ≡ At b z) × (find_tag tag-SMAP s b z ≡ Missing))
+    (need_tag tag-RMIH 2 s im e ≡ None)
+    ⊎ (need_tag tag-IM00 0 s im e ≡ None)
+    ⊎ ((b : ℕ) × (z : ℕ) × (need_tag tag-IM00 0 s im e ≡ Some (b, z)) × (find_tag tag-SMAP s b z ≡ None))
 
 -- directly in ROOM: RMHD with 6 bytes, and RMIM with those
 abbrev pub NeededMissing : List ℕ → Type 0
 NeededMissing s =
-    (need_tag tag-RMHD 6 s 8 (length s) ≡ Missing)
-    ⊎ (need_tag tag-RMIM 0 s 8 (length s) ≡ Missing)
-    ⊎ ((im : ℕ) × (e : ℕ) × (need_tag tag-RMIM 0 s 8 (length s) ≡ At im e) × BackgroundMissing s im e)
+    (need_tag tag-RMHD 6 s 8 (length s) ≡ None)
+    ⊎ (need_tag tag-RMIM 0 s 8 (length s) ≡ None)
+    ⊎ ((im : ℕ) × (e : ℕ) × (need_tag tag-RMIM 0 s 8 (length s) ≡ Some (im, e)) × BackgroundMissing s im e)
 
 -- the block of number k with the tag t has none with the tag c in it, of n bytes or more
 abbrev pub Lacks : (t c n : ℕ) → List ℕ → ℕ → Type 0
-Lacks t c n s k = (b : ℕ) × (z : ℕ) × (nth_tag t s 8 (length s) k ≡ At b z) × (need_tag c n s (b + 8) z ≡ Missing)
+Lacks t c n s k = (b : ℕ) × (z : ℕ) × (nth_tag t s 8 (length s) k ≡ Some (b, z)) × (need_tag c n s (b + 8) z ≡ None)
 
 -- "Each OBCD needs CDHD (13 bytes) and each OBIM needs IMHD (first 16 bytes)"
 abbrev pub ObjectLacks : List ℕ → Type 0
@@ -64,7 +63,7 @@ ObjectLacks s = ((k : ℕ) × Lacks tag-OBCD tag-CDHD 13 s k) ⊎ ((k : ℕ) × 
 
 -- change request 9: the first TRNS directly in ROOM has an empty payload
 abbrev pub IndexLacks : List ℕ → Type 0
-IndexLacks s = (b : ℕ) × (z : ℕ) × (find_tag tag-TRNS s 8 (length s) ≡ At b z) × (z ≤ b + 8)
+IndexLacks s = (b : ℕ) × (z : ℕ) × (find_tag tag-TRNS s 8 (length s) ≡ Some (b, z)) × (z ≤ b + 8)
 
 -- ---- 3: "Width W a multiple of 8, 8 to 1,024 … Height H 1 to 200. Planes N 0 to 4. Objects (OBCD blocks) 0 to 128"
 abbrev pub OutOfSizes : Room → Type 0
@@ -102,9 +101,9 @@ OtherSession room ss =
 abbrev pub NotDrawable : List ℕ → (o st : ℕ) → Type 0
 NotDrawable s o st =
     ((o < 1) ⊎ (object_count s < o))
-    ⊎ (image_block s o ≡ Missing)
+    ⊎ (image_block s o ≡ None)
     ⊎ ((st < 1) ⊎ (9 < st) ⊎ (image_count s o < st))
-    ⊎ (state_block s o st ≡ Missing)
+    ⊎ (state_block s o st ≡ None)
 
 -- ---- 12, of the entry that a draw would add: "x or image width not a multiple of 8, a zero size, or a box not wholly in the room"
 abbrev pub NotAllowed : scene.Room → Entry → Type 0

@@ -1,12 +1,11 @@
 -- A room that is right, and what a load of it must do (demand 2): the least room around a background and planes that were written, of any
 -- sizes. Document 01, "Blocks".
-use Rattle.std.specs.Prelude.{ℕ, zero, suc, ◌+◌, ◌*◌, ◌/◌, ◌≡◌, List, [], ◌++◌, length, take, replicate}
+use Rattle.std.specs.Prelude.{ℕ, zero, suc, ◌+◌, ◌*◌, ◌/◌, ◌≡◌, List, [], ◌++◌, length, take, replicate, Ok}
 use Rattle.number.specs.Number.{le16_bytes, be32_bytes}
 use Rattle.number.specs.Buffer.{over}
 use Rattle.block.specs.Tag.{tag-ROOM, tag-RMHD, tag-RMIM, tag-RMIH, tag-IM00}
 use Rattle.block_writer.specs.Call.{smap_outcome, plane_outcome, target_after}
 use Rattle.room.specs.declared.Room.{Room}
-use Rattle.room.specs.declared.Tested.TheVariants.{Right}
 use Rattle.stored.specs.Layout.{session_size}
 use Rattle.play.specs.Bytes.{Lent, test_of, after_load}
 
@@ -37,7 +36,7 @@ plane_written k w h rows d len = take len (target_after (plane_outcome k w h row
 -- Lent bytes past what the load fills stay
 pub record Loads (w h n : ℕ) (rows : List ℕ) (planes : ℕ → List ℕ) (s : List ℕ) (b : Lent) : Type 0 where
   pub room : Room
-  pub accepted : test_of s b ≡ Right room
+  pub accepted : test_of s b ≡ Ok room
   pub width : room.width ≡ w
   pub height : room.height ≡ h
   pub count : room.planes ≡ n

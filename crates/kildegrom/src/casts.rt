@@ -2,6 +2,7 @@
 ghost use Rattle.std.specs.Prelude.{◌≡◌};
 ghost use Rattle.cast.specs.Call.{number_in, cast_list, cast_frame};
 
+use answers::number;
 use cast::Actor;
 
 // Paints actors back to front: the list is put in painting order in place, and each is stamped on the frame in that order.
@@ -20,5 +21,5 @@ pub extern "C" fn kg_cast(
         × (list.new ≡ cast_list result list.old)
         × (frame.new ≡ cast_frame result masks.now pictures.now w h n clear list.old frame.old) }
 {
-    cast::cast(list, frame, masks, pictures, w, h, n, clear)
+    number(cast::cast(list, frame, masks, pictures, w, h, n, clear))
 }

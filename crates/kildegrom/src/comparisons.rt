@@ -1,9 +1,9 @@
 // Two rooms compared.
 ghost use Rattle.std.specs.Prelude.{◌≡◌, length};
 ghost use Rattle.compare.specs.Compare.{compared_of, answer_of, list_after};
-ghost use Rattle.kildegrom.specs.Word.{compared_word};
+ghost use Rattle.answers.specs.Word.{compared_word};
 
-use compare::Compared;
+use answers::word;
 
 // Which strips of two rooms differ, as a list of places; the value is how many were filled.
 #[unsafe(no_mangle)]
@@ -12,8 +12,5 @@ pub extern "C" fn kg_compare(a: &[u8], b: &[u8], list: &mut [u8]) -> u64
     ensures list_after { list.new
         ≡ list_after (compared_of a.now b.now (length list.old)) list.old }
 {
-    match compare::compare(a, b, list) {
-        Compared::Listed(count) => (count as u64) * 4294967296,
-        Compared::Refused(number) => number as u64,
-    }
+    word(compare::compare(a, b, list).map(|count| count as u32))
 }

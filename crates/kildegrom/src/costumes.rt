@@ -3,10 +3,10 @@ ghost use Rattle.std.specs.Prelude.{◌≡◌};
 ghost use Rattle.costume.specs.Start.{started_of, start_bytes};
 ghost use Rattle.limbs.specs.Limb.{drawn_of};
 ghost use Rattle.limbs.specs.Tick.{tick_number, tick_bytes};
-ghost use Rattle.kildegrom.specs.Word.{started_word, drawn_word};
+ghost use Rattle.answers.specs.Word.{started_word, drawn_word};
 
+use answers::{number, word};
 use costume::Started;
-use limbs::Drawn;
 
 // Starts a costume's animation: the table of `count` offsets stands at payload byte `table`.
 #[unsafe(no_mangle)]
@@ -22,11 +22,8 @@ pub extern "C" fn kg_start(
     ensures answer { result ≡ started_word (started_of payload.now limbs.old table count command chore direction) }
     ensures limbs_after { limbs.new ≡ start_bytes payload.now limbs.old table count command chore direction }
 {
-    match costume::start(payload, limbs, table, count, command, chore, direction) {
-        Started::Set => 4294967296,
-        Started::Undefined => 0,
-        Started::Refused(number) => number as u64,
-    }
+    let started = costume::start(payload, limbs, table, count, command, chore, direction);
+    word(started.map(|started| u32::from(started == Started::Set)))
 }
 
 // One tick of all limbs.
@@ -35,7 +32,7 @@ pub extern "C" fn kg_tick(payload: &[u8], limbs: &mut [u8], command: u32) -> u32
     ensures number { result ≡ tick_number payload.now limbs.old command }
     ensures limbs_after { limbs.new ≡ tick_bytes payload.now limbs.old command }
 {
-    limbs::tick(payload, limbs, command)
+    number(limbs::tick(payload, limbs, command))
 }
 
 // Whether a limb draws, and its picture.
@@ -43,9 +40,6 @@ pub extern "C" fn kg_tick(payload: &[u8], limbs: &mut [u8], command: u32) -> u32
 pub extern "C" fn kg_limb_draws(limbs: &[u8], limb: u32) -> u64
     ensures { result ≡ drawn_word (drawn_of limbs.now limb) }
 {
-    match limbs::limb_draws(limbs, limb) {
-        Drawn::Refused(number) => number as u64,
-        Drawn::Nothing => 0,
-        Drawn::Picture(picture) => (256 + (picture as u64)) * 4294967296,
-    }
+    let drawn = limbs::limb_draws(limbs, limb);
+    word(drawn.map(|picture| picture.map_or(0, |picture| 256 + u32::from(picture))))
 }

@@ -1,6 +1,6 @@
 // The calls for a C host, over numbers and byte slices: every promise is an equation, and no call has a `requires`. A `&[u8]` is a
 // pointer and a length in C (include/kildegrom.h). Each answers document 01's number, 0 where it is accepted. A module for each family.
-// A C host takes them from the archive of crate kildegrom_c, which exports each under its name.
+// The crate is the static library: the archive exports each under its name.
 #![tactic(auto)]
 
 pub mod actors;

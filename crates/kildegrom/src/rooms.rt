@@ -7,13 +7,15 @@ ghost use Rattle.objects.specs.Name.{name_place, place_word, name_number};
 ghost use Rattle.object_list.specs.List.{list_test, rows_after};
 ghost use Rattle.play.specs.Bytes.{lent, test_of, after_load};
 
+use answers::number;
+
 // The room's record.
 #[unsafe(no_mangle)]
 pub extern "C" fn kg_record(room: &[u8], out: &mut [u8]) -> u32
     ensures number { result ≡ number_of (record_test room.now out.old) }
     ensures record_after { out.new ≡ record_after (record_test room.now out.old) out.old }
 {
-    objects::record::record(room, out)
+    number(objects::record::record(room, out))
 }
 
 // Loads a room: pixels, masks and an empty session.
@@ -28,7 +30,7 @@ pub extern "C" fn kg_load(
     ensures lent_after { lent session.new pixels.new masks.new
         ≡ after_load room.now (lent session.old pixels.old masks.old) }
 {
-    load::load(room, session, pixels, masks)
+    number(load::load(room, session, pixels, masks))
 }
 
 // An object's header.
@@ -37,7 +39,7 @@ pub extern "C" fn kg_header(room: &[u8], out: &mut [u8], object: u32) -> u32
     ensures number { result ≡ place_number (header_call room.now out.old object) }
     ensures header_after { out.new ≡ header_after room.now (header_call room.now out.old object) out.old }
 {
-    objects::object::header_record(room, out, object)
+    number(objects::object::header_record(room, out, object))
 }
 
 // Where an object's name stands in the room: its start in the low 32 bits, its length in the high 32; 0 where there is none.
@@ -53,7 +55,7 @@ pub extern "C" fn kg_name(room: &[u8], object: u32) -> u64
 pub extern "C" fn kg_name_number(room: &[u8], object: u32) -> u32
     ensures { result ≡ name_number room.now object }
 {
-    objects::name::name_number(room, object)
+    number(objects::name::name_number(room, object))
 }
 
 // The listing of a room: its record into `out`, and a row of 32 bytes for each object.
@@ -64,5 +66,5 @@ pub extern "C" fn kg_list(room: &[u8], out: &mut [u8], rows: &mut [u8]) -> u32
     ensures rows_after { rows.new
         ≡ rows_after room.now (list_test room.now out.old rows.old) rows.old }
 {
-    object_list::list(room, out, rows)
+    number(object_list::list(room, out, rows))
 }

@@ -1,4 +1,4 @@
-use Rattle.std.proofs.Common.{◌-◌, ◌≤◌, ◌≡◌, length}
+use Rattle.std.proofs.Common.{◌≡◌}
 use Rattle.play.specs.Bytes.{lent, played}
 use Rattle.call_list.specs.Coded.{calls_of}
 use Rattle.call_list.specs.Run.{played_number, put_first}
@@ -6,10 +6,5 @@ use Rattle.call_list.proofs.calls.play_all.Given as goal
 
 abbrev pub invariant-loop-i : goal.invariant-loop-i
 invariant-loop-i l =
-    (l.i ≤ l.n) × (length l.session ≡ length l.initial.session) × (length l.pixels ≡ length l.initial.pixels) × (length l.masks ≡ length l.initial.masks)
-    × (length l.numbers ≡ length l.initial.numbers)
-    × (lent l.session l.pixels l.masks ≡ played l.room (lent l.initial.session l.initial.pixels l.initial.masks) (calls_of l.calls l.i))
+    (lent l.session l.pixels l.masks ≡ played l.room (lent l.initial.session l.initial.pixels l.initial.masks) (calls_of l.calls l.i))
     × (l.numbers ≡ put_first (played_number l.room (lent l.initial.session l.initial.pixels l.initial.masks) l.calls) l.i l.initial.numbers)
-
-abbrev pub decreases-loop-i : goal.decreases-loop-i
-decreases-loop-i l = l.n - l.i

@@ -2,14 +2,10 @@ use Rattle.std.proofs.Common.{w32}
 use mir.ValLaws.{to_z-of_z}
 use Rattle.kildegrom.proofs.actors.kg_stamp.Goals as goal
 
--- `kildegrom::actors::kg_stamp` meets its contract.
+-- The corner that the callee gets is the one that was given.
 
-pub returns : goal.returns
-returns c =
+pub returns-clause-frame_after : goal.returns-clause-frame_after
+returns-clause-frame_after c =
     let a = c.args in
     let fits = c.ranges in
-    let x = to_z-of_z w32 a.x fits.x in
-    let y = to_z-of_z w32 a.y fits.y in record {
-      number = c.stamp.ensures.number;
-      frame_after = rw (x, y) at c.stamp.ensures.frame_after;
-    }
+    rw (to_z-of_z w32 a.x fits.x, to_z-of_z w32 a.y fits.y) at c.stamp.ensures.frame_after

@@ -1,6 +1,6 @@
 -- Laws of an answer of two parts: a refused call has its number alone, an accepted one its value alone, and each part can be taken out again.
 use Rattle.std.proofs.Common.{ℕ, ◌*◌, ◌/◌, ◌%◌, ◌<◌, ◌≡◌, sym, add-zero, zero-add, arith}
-use Rattle.kildegrom.specs.Word.{word}
+use Rattle.answers.specs.Word.{word}
 
 pub refused-word : (n : ℕ) → n ≡ word n 0
 refused-word n = sym (add-zero n)
