@@ -7,16 +7,14 @@ use std::str::from_utf8;
 
 // Opens the file of that name for reading. Where it can't, standard error has a line with the name and the reason.
 pub fn open_or_tell<R: Files + Eprint>(rt: &R, name: &[u8]) -> io::Result<Option<R::File>> {
-    match from_utf8(name) {
-        Ok(name) => match File::open(rt, name) {
-            Ok(file) => Ok(Some(file)),
-            Err(error) => {
-                tell(rt, name, &error)?;
-                Ok(None)
-            }
-        },
-        Err(_) => {
-            eprintln!(rt; "{}: the name is not UTF-8", name.escape_ascii())?;
+    let Ok(name) = from_utf8(name) else {
+        eprintln!(rt; "{}: the name is not UTF-8", name.escape_ascii())?;
+        return Ok(None);
+    };
+    match File::open(rt, name) {
+        Ok(file) => Ok(Some(file)),
+        Err(error) => {
+            tell(rt, name, &error)?;
             Ok(None)
         }
     }
@@ -29,9 +27,8 @@ fn tell(rt: &impl Eprint, name: &str, error: &io::Error) -> io::Result<()> {
     let size = written.position() as usize;
     let bytes = written.into_inner();
     let text = from_utf8(&bytes[..size.min(256)]).unwrap_or("");
-    let reason = match text.split_once(" (os error ") {
-        Some((reason, _)) => reason,
-        None => text,
-    };
+    let reason = text
+        .split_once(" (os error ")
+        .map_or(text, |(reason, _)| reason);
     eprintln!(rt; "{name}: {reason}")
 }

@@ -1,18 +1,17 @@
 -- Laws of the two calls: the listing by what the room's test gives, and what a call answers and leaves in the lent buffer.
-use Rattle.std.proofs.Common.{◌≡◌, refl, sym, List, ◌++◌, ℕ, ◌≤◌, ◌<◌, arith, lt-ltb, le-ltb, length, take, length-take-le}
+use Rattle.std.proofs.Common.{◌≡◌, refl, sym, List, ◌++◌, ℕ, ◌≤◌, ◌<◌, arith, lt-ltb, le-ltb, length, take, length-take-le, Ok, Err}
 use Rattle.room.specs.Test.{room_test, nothing}
 use Rattle.room.specs.declared.Room.{Room}
-use Rattle.room.specs.declared.Tested.TheVariants.{Right, Refused}
 use Rattle.listing.specs.Listing.{room_line, object_lines, refused_line, listing_of, listing_size, written_count, written_over}
 use Rattle.listing.specs.Put.{Put}
 use Rattle.listing.proofs.PutLaws.{put_front}
 
 module _ (s : List ℕ) where
-  pub listing_right : (r : Room) → Right r ≡ room_test nothing s → room_line r ++ object_lines s r.objects ≡ listing_of s
+  pub listing_right : (r : Room) → Ok r ≡ room_test nothing s → room_line r ++ object_lines s r.objects ≡ listing_of s
   unfolding listing_of
   listing_right r e = rw (← e)
 
-  pub listing_refused : (n : ℕ) → Refused n ≡ room_test nothing s → refused_line n ≡ listing_of s
+  pub listing_refused : (n : ℕ) → Err n ≡ room_test nothing s → refused_line n ≡ listing_of s
   unfolding listing_of
   listing_refused n e = rw (← e)
 

@@ -1,13 +1,11 @@
 -- Laws of objects' lines: the line of an object from where its header stands, and the lines of one object more.
-use Rattle.std.proofs.Common.{◌≡◌, refl, List, [], ◌++◌, ℕ, zero, suc, ◌+◌, ◌≤◌, ◌<◌, add-one, arith, get_or, length, length-append}
+use Rattle.std.proofs.Common.{◌≡◌, refl, List, [], ◌++◌, ℕ, zero, suc, ◌+◌, ◌≤◌, ◌<◌, add-one, arith, get_or, length, length-append, Some, None, Ok, Err}
 use mathlib.Core.Path.{subst⁻¹}
 use mathlib.Core.Logic.{by_cases}
 use native.Mathlib.Decide.{dec_lt}
 use Rattle.block.specs.Tree.{Inside}
-use Rattle.block.specs.declared.Found.TheVariants as found
 use Rattle.objects.specs.Object.{cdhd_at, cdhd_in, object_block}
 use Rattle.objects.specs.declared.Cdhd.{Cdhd}
-use Rattle.objects.specs.declared.Place.TheVariants.{At, Refused}
 use Rattle.objects.proofs.ObjectLaws.{object_in}
 use Rattle.listing.specs.Listing.{line_in, object_line, object_lines}
 
@@ -18,17 +16,17 @@ module _ (s : List ℕ) where
 
   -- ---- the line of object k
   module _ (k : ℕ) where
-    pub line_missing : found.Missing ≡ object_block s k → [] ≡ line_in s k (object_block s k)
+    pub line_missing : None ≡ object_block s k → [] ≡ line_in s k (object_block s k)
     line_missing e = rw (← e)
 
-    module _ (b z : ℕ) (block : found.At b z ≡ object_block s k) where
+    module _ (b z : ℕ) (block : Some (b, z) ≡ object_block s k) where
       pub block_in : (b + 8 ≤ z) × (z ≤ length s)
       block_in = let i = subst⁻¹ (Inside 8 (length s)) block (object_in s k) in (i.1, i.2)
 
-      pub line_refused : (n : ℕ) → Refused n ≡ cdhd_in s b z → [] ≡ line_in s k (object_block s k)
+      pub line_refused : (n : ℕ) → Err n ≡ cdhd_in s b z → [] ≡ line_in s k (object_block s k)
       line_refused n e = rw (← block, ← e)
 
-      pub line_header : (p : ℕ) (h : Cdhd) → At p ≡ cdhd_in s b z → h ≡ cdhd_at s p → object_line k h ≡ line_in s k (object_block s k)
+      pub line_header : (p : ℕ) (h : Cdhd) → Ok p ≡ cdhd_in s b z → h ≡ cdhd_at s p → object_line k h ≡ line_in s k (object_block s k)
       line_header p h e header = rw (← block, ← e, header)
 
   -- the box of a header, in strips

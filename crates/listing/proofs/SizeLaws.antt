@@ -1,17 +1,11 @@
 -- How long a listing is: at most 8,099 bytes, so that every listing fits a buffer of 8,192.
-use Rattle.std.proofs.Common.{◌≡◌, refl, Bool, true, false, cond, List, ℕ, zero, suc, ◌+◌, ◌-◌, ◌*◌, ◌≤◌, ◌<◌, add-one, arith, ltb, get_or, length, length-append}
+use Rattle.std.proofs.Common.{◌≡◌, refl, Bool, true, false, cond, List, ℕ, zero, suc, ◌+◌, ◌-◌, ◌*◌, ◌≤◌, ◌<◌, add-one, arith, ltb, get_or, length, length-append, Option, Some, None, Result, Ok, Err}
 use lib.IntN.{pos, negsuc}
 use Rattle.number.specs.Number.{le16, signed16}
-use Rattle.block.specs.declared.Found.{Found}
-use Rattle.block.specs.declared.Found.TheVariants as found
 use Rattle.room.specs.Test.{room_test, nothing, number_of}
 use Rattle.room.specs.declared.Room.{Room}
-use Rattle.room.specs.declared.Tested.{Tested}
-use Rattle.room.specs.declared.Tested.TheVariants as tested
 use Rattle.room.proofs.TestLaws.{test-passes}
 use Rattle.objects.specs.Object.{cdhd_at, cdhd_in, object_block}
-use Rattle.objects.specs.declared.Place.{Place}
-use Rattle.objects.specs.declared.Place.TheVariants.{At, Refused}
 use Rattle.listing.specs.Decimal.{decimal, signed}
 use Rattle.listing.specs.Listing.{text_walk, space, field, signed_field, room_line, box_part, walk_part, object_line, line_at, line_in, object_lines}
 use Rattle.listing.specs.Listing.{refused_line, listing_after, listing_of}
@@ -85,13 +79,13 @@ module _ (s : List ℕ) (bytes : Bytes s) where
   line_short : (k : ℕ) → k ≤ 128 → length (line_in s k (object_block s k)) ≤ 63
   line_short k h = on (object_block s k)
     where
-      header : (q : Place) → length (line_at s k q) ≤ 63
-      header (At p) = object_short k p h
-      header (Refused n) = omega arith
+      header : (q : Result ℕ ℕ) → length (line_at s k q) ≤ 63
+      header (Ok p) = object_short k p h
+      header (Err n) = omega arith
 
-      on : (f : Found) → length (line_in s k f) ≤ 63
-      on (found.At b z) = header (cdhd_in s b z)
-      on found.Missing = omega arith
+      on : (f : Option (ℕ × ℕ)) → length (line_in s k f) ≤ 63
+      on (Some (b, z)) = header (cdhd_in s b z)
+      on None = omega arith
 
   lines_short : (n : ℕ) → n ≤ 128 → length (object_lines s n) ≤ 63 * n
   lines_short zero h = unfold object_lines in omega arith
@@ -100,8 +94,8 @@ module _ (s : List ℕ) (bytes : Bytes s) where
       (omega (arith, lines_short n (omega arith), line_short (n + 1) (omega arith)))
 
   -- a listing's length, by what the room's test gives: a refusal's number is a byte
-  after-short : (t : Tested) → t ≡ room_test nothing s → number_of t < 256 → length (listing_after s t) ≤ 8099
-  after-short (tested.Right r) e h =
+  after-short : (t : Result Room ℕ) → t ≡ room_test nothing s → number_of t < 256 → length (listing_after s t) ≤ 8099
+  after-short (Ok r) e h =
       let sound = (test-passes nothing s r e).sound in
       rw (length-append (room_line r) (object_lines s r.objects))
       (omega (
@@ -110,8 +104,8 @@ module _ (s : List ℕ) (bytes : Bytes s) where
         lines_short r.objects sound.counted,
         room-short r sound.widest sound.highest sound.few sound.counted,
       ))
-  after-short (tested.Refused n) e h = omega (arith, refused-short n h)
+  after-short (Err n) e h = omega (arith, refused-short n h)
 
-  pub listing_short : (t : Tested) → t ≡ room_test nothing s → number_of t < 256 → length (listing_of s) ≤ 8099
+  pub listing_short : (t : Result Room ℕ) → t ≡ room_test nothing s → number_of t < 256 → length (listing_of s) ≤ 8099
   unfolding listing_of
   listing_short t e h = rw (← e) (after-short t e h)

@@ -1,17 +1,11 @@
 -- The listing of a room (document 01, "Worked rows", the whole listing of a room): a line for the room and one for each object in OBCD order,
 -- or the one line of its refusal.
-use Rattle.std.specs.Prelude.{ℕ, zero, suc, ◌*◌, cond, List, [], ◌∷◌, ◌++◌, ltb, ℤ, length}
+use Rattle.std.specs.Prelude.{ℕ, zero, suc, ◌*◌, cond, List, [], ◌∷◌, ◌++◌, ltb, ℤ, length, Option, Some, None, Result, Ok, Err}
 use Rattle.number.specs.Buffer.{over}
-use Rattle.block.specs.declared.Found.{Found}
-use Rattle.block.specs.declared.Found.TheVariants as found
 use Rattle.room.specs.Test.{room_test, nothing}
 use Rattle.room.specs.declared.Room.{Room}
-use Rattle.room.specs.declared.Tested.{Tested}
-use Rattle.room.specs.declared.Tested.TheVariants as tested
 use Rattle.objects.specs.Object.{cdhd_at, cdhd_in, object_block}
 use Rattle.objects.specs.declared.Cdhd.{Cdhd}
-use Rattle.objects.specs.declared.Place.{Place}
-use Rattle.objects.specs.declared.Place.TheVariants.{At, Refused}
 use Rattle.listing.specs.Decimal.{decimal, signed}
 
 -- a space, and the end of a line
@@ -73,13 +67,13 @@ unfoldable pub object_line : ℕ → Cdhd → List ℕ
 object_line k h = field text_object k ++ field text_id h.id ++ box_part h ++ walk_part h ++ newline
 
 -- the line of object k, from where its CDHD stands and from its block; a room that passes its test has both (refusal 2)
-abbrev pub line_at : List ℕ → ℕ → Place → List ℕ
-line_at s k (At p) = object_line k (cdhd_at s p)
-line_at s k (Refused n) = []
+abbrev pub line_at : List ℕ → ℕ → Result ℕ ℕ → List ℕ
+line_at s k (Ok p) = object_line k (cdhd_at s p)
+line_at s k (Err n) = []
 
-abbrev pub line_in : List ℕ → ℕ → Found → List ℕ
-line_in s k (found.At b z) = line_at s k (cdhd_in s b z)
-line_in s k found.Missing = []
+abbrev pub line_in : List ℕ → ℕ → Option (ℕ × ℕ) → List ℕ
+line_in s k (Some (b, z)) = line_at s k (cdhd_in s b z)
+line_in s k None = []
 
 -- the lines of objects 1 to n
 unfoldable pub object_lines : List ℕ → ℕ → List ℕ
@@ -90,9 +84,9 @@ object_lines s (suc n) = object_lines s n ++ line_in s (suc n) (object_block s (
 unfoldable pub refused_line : ℕ → List ℕ
 refused_line n = field text_refused n ++ newline
 
-abbrev pub listing_after : List ℕ → Tested → List ℕ
-listing_after s (tested.Right r) = room_line r ++ object_lines s r.objects
-listing_after s (tested.Refused n) = refused_line n
+abbrev pub listing_after : List ℕ → Result Room ℕ → List ℕ
+listing_after s (Ok r) = room_line r ++ object_lines s r.objects
+listing_after s (Err n) = refused_line n
 
 -- the whole listing of a room's bytes
 unfoldable pub listing_of : List ℕ → List ℕ

@@ -9,7 +9,6 @@ ghost use Rattle.std.specs.Prelude.{◌≡◌, ◌≤◌, length, take};
 ghost use Rattle.listing.specs.Listing.{listing_of, refused_line, written_count, written_over};
 
 use crate::line::{object_lines, refused_line, room_line};
-use room::Tested;
 use room::test::{nothing_lent, test_room};
 
 // The size that a buffer for a listing needs: every listing fits.
@@ -32,11 +31,11 @@ pub fn list(room: &[u8], out: &mut [u8]) -> usize
         return 0;
     }
     match test_room(room, nothing_lent()) {
-        Tested::Right(r) => {
+        Ok(r) => {
             let at = room_line(out, 0, r);
             object_lines(room, r.objects, out, at)
         }
-        Tested::Refused(number) => refused_line(out, 0, number),
+        Err(refusal) => refused_line(out, 0, refusal.number()),
     }
 }
 

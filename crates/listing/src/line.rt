@@ -6,9 +6,8 @@ ghost use Rattle.objects.specs.Object.{object_block};
 ghost use Rattle.listing.specs.Put.{Put};
 
 use crate::put::{number, signed, text};
-use block::Found;
+use objects::Cdhd;
 use objects::object::{cdhd_in, object_block, read_cdhd};
-use objects::{Cdhd, Place};
 use room::Room;
 
 // The line of a room.
@@ -62,14 +61,13 @@ fn object(room: &[u8], k: usize, out: &mut [u8], at: usize) -> usize
     requires { at + length (line_in room.now k (object_block room.now k)) ≤ length out.old }
     ensures { Put (line_in room.now k (object_block room.now k)) out.old out.new at result }
 {
-    let Found::At(b, z) = object_block(room, k) else {
+    let Some((b, z)) = object_block(room, k) else {
         return at;
     };
-    let Place::At(p) = cdhd_in(room, b, z) else {
+    let Ok(p) = cdhd_in(room, b, z) else {
         return at;
     };
-    let h = read_cdhd(room, p);
-    object_line(out, at, k, h)
+    object_line(out, at, k, read_cdhd(room, p))
 }
 
 // The lines of objects 1 to `count`.
@@ -78,10 +76,8 @@ pub fn object_lines(room: &[u8], count: usize, out: &mut [u8], at: usize) -> usi
     ensures { Put (object_lines room.now count) out.old out.new at result }
 {
     let mut end = at;
-    let mut k: usize = 0;
-    while k < count {
-        k += 1;
-        end = object(room, k, out, end);
+    for k in 0..count {
+        end = object(room, k + 1, out, end);
     }
     end
 }

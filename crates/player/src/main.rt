@@ -9,8 +9,8 @@ ghost use Rattle.player.specs.Adler.{adler32};
 use call_list::calls::call_count;
 use input::named::open_or_tell;
 use input::read_whole;
+use room::Room;
 use room::head::read_head;
-use room::{Room, Tested};
 use std::env::FillError;
 use std::io;
 use std::io::Read;
@@ -24,17 +24,15 @@ fn checksum(bytes: &[u8]) -> u32
     let mut low: u32 = 1;
     let mut high: u32 = 0;
     for byte in bytes {
-        low = (low + *byte as u32) % 65521;
+        low = (low + u32::from(*byte)) % 65521;
         high = (high + low) % 65521;
     }
     high * 65536 + low
 }
 
-// Checksum of the first n bytes.
-fn sum(rt: &impl Print, before: &str, bytes: &[u8], n: usize) -> io::Result<()>
-    requires { n ≤ length bytes.now }
-{
-    let sum = checksum(&bytes[..n]);
+// Checksum of the bytes, behind what is printed before it.
+fn sum(rt: &impl Print, before: &str, bytes: &[u8]) -> io::Result<()> {
+    let sum = checksum(bytes);
     print!(rt; "{before}{sum:08x}")
 }
 
@@ -44,45 +42,27 @@ fn sums(rt: &impl Print, r: Room, pixels: &[u8], masks: &[u8]) -> io::Result<()>
     requires surfaces_fit { (204800 ≤ length pixels.now) × (102400 ≤ length masks.now) }
 {
     let rows = r.planes * r.height;
-    sum(rt, "pixels ", pixels, r.width * r.height)?;
-    sum(rt, " masks ", masks, r.width / 8 * rows)?;
+    sum(rt, "pixels ", &pixels[..r.width * r.height])?;
+    sum(rt, " masks ", &masks[..r.width / 8 * rows])?;
     println!(rt; "")
 }
 
-// The line of a call: its place in the list, from 1 on, and its number.
-fn answer(rt: &impl Print, place: usize, n: u8) -> io::Result<()> {
-    println!(rt; "call {place}: {n}")
-}
-
-fn answers(rt: &impl Print, numbers: &[u8], n: usize) -> io::Result<()>
-    requires { n ≤ length numbers.now }
-{
-    for i in 0..n {
-        answer(rt, i + 1, numbers[i])?;
+// A line for each call: its place in the list, from 1 on, and its number.
+fn answers(rt: &impl Print, numbers: &[u8]) -> io::Result<()> {
+    for (i, number) in numbers.iter().enumerate() {
+        println!(rt; "call {}: {number}", i + 1)?;
     }
     Ok(())
-}
-
-// 1,024 × 200 pixels, and 4 × 128 × 200 bytes of masks: what the largest room asks for.
-fn pixel_buffer() -> [u8; 204800]
-    ensures { 204800 ≡ length result }
-{
-    [0; 204800]
-}
-
-fn mask_buffer() -> [u8; 102400]
-    ensures { 102400 ≡ length result }
-{
-    [0; 102400]
 }
 
 // Plays the calls on the room, and prints what comes of it.
 fn play(rt: &impl Print, room: &[u8], calls: &[u8]) -> io::Result<()> {
     let mut session = [0u8; SESSION_SIZE];
-    let mut pixels = pixel_buffer();
-    let mut masks = mask_buffer();
+    // 1,024 × 200 pixels, and 4 × 128 × 200 bytes of masks: what the largest room asks for.
+    let mut pixels = [0u8; 204_800];
+    let mut masks = [0u8; 102_400];
     let mut numbers = [0u8; 4096];
-    let refusal = call_list::run(
+    let run = call_list::run(
         room,
         &mut session,
         &mut pixels,
@@ -90,14 +70,13 @@ fn play(rt: &impl Print, room: &[u8], calls: &[u8]) -> io::Result<()> {
         calls,
         &mut numbers,
     );
-    if refusal != 0 {
-        return println!(rt; "refused {refusal}");
+    if let Err(refusal) = run {
+        return println!(rt; "refused {}", refusal.number());
     }
-    let n = call_count(calls, &numbers);
-    answers(rt, &numbers, n)?;
+    answers(rt, &numbers[..call_count(calls, &numbers)])?;
     match read_head(room) {
-        Tested::Right(r) => sums(rt, r, &pixels, &masks),
-        Tested::Refused(_) => Ok(()),
+        Ok(r) => sums(rt, r, &pixels, &masks),
+        Err(_) => Ok(()),
     }
 }
 
@@ -121,20 +100,19 @@ fn play_files(
 // Opens the file that argument i names: none where it can't, after saying why.
 fn open_argument<R: Env + Files + Eprint>(rt: &R, i: usize) -> io::Result<Option<R::File>> {
     let mut name = [0u8; 4096];
-    match rt.arg(i, &mut name) {
-        Ok(n) => open_or_tell(rt, &name[..n]),
-        Err(_) => open_or_tell(rt, b""),
-    }
+    let n = rt.arg(i, &mut name).unwrap_or(0);
+    open_or_tell(rt, &name[..n])
 }
 
 // Plays the files that arguments i and i + 1 name.
 fn play_pair<R: Env + Files + Print + Eprint>(rt: &R, i: usize, next: usize) -> io::Result<()> {
-    if let Some(mut room) = open_argument(rt, i)? {
-        if let Some(mut calls) = open_argument(rt, next)? {
-            play_files(rt, &mut room, &mut calls)?;
-        }
-    }
-    Ok(())
+    let Some(mut room) = open_argument(rt, i)? else {
+        return Ok(());
+    };
+    let Some(mut calls) = open_argument(rt, next)? else {
+        return Ok(());
+    };
+    play_files(rt, &mut room, &mut calls)
 }
 
 // Plays each of the pairs of arguments from argument 1 on.

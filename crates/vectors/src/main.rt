@@ -4,9 +4,8 @@
 
 ghost use Rattle.std.specs.Prelude.{◌≤◌, ◌*◌};
 
-use block_writer::Wrote;
+use refusal::Refusal;
 use std::io;
-use strip::{Answer, Made};
 
 fn bytes(rt: &impl Print, values: &[u8]) -> io::Result<()> {
     for value in values {
@@ -15,8 +14,8 @@ fn bytes(rt: &impl Print, values: &[u8]) -> io::Result<()> {
     println!(rt; "")
 }
 
-fn refused(rt: &impl Print, n: u8) -> io::Result<()> {
-    println!(rt; "refused {n}")
+fn refused(rt: &impl Print, refusal: Refusal) -> io::Result<()> {
+    println!(rt; "refused {}", refusal.number())
 }
 
 // A strip body of h rows.
@@ -26,8 +25,8 @@ fn pixels(rt: &impl Print, h: usize, body: &[u8]) -> io::Result<()>
     let mut out = [0u8; 1600];
     let n = 8 * h;
     match decode::decode_strip(body, h, &mut out) {
-        Answer::Drawn { clear: _ } => bytes(rt, &out[..n]),
-        Answer::Refused(number) => refused(rt, number),
+        Ok(_) => bytes(rt, &out[..n]),
+        Err(refusal) => refused(rt, refusal),
     }
 }
 
@@ -37,8 +36,8 @@ fn rows(rt: &impl Print, h: usize, body: &[u8]) -> io::Result<()>
 {
     let mut out = [0u8; 200];
     match plane::mask_rows(body, h, &mut out) {
-        Made::All => bytes(rt, &out[..h]),
-        Made::Refused(number) => refused(rt, number),
+        Ok(()) => bytes(rt, &out[..h]),
+        Err(refusal) => refused(rt, refusal),
     }
 }
 
@@ -72,16 +71,14 @@ fn rewritten(rt: &impl Print, h: usize, body: &[u8]) -> io::Result<()>
     requires { h ≤ 200 }
 {
     let mut read = [0u8; 200];
-    plane::mask_rows(body, h, &mut read);
     let mut block = [0u8; 512];
-    match block_writer::write_plane(&read, &mut block, 8, h as u32, 1) {
-        Wrote::Block(size) => {
-            if size <= 512 {
-                bytes(rt, &block[..size])?;
-            }
-            Ok(())
-        }
-        Wrote::Refused(number) => refused(rt, number),
+    let answer = plane::mask_rows(body, h, &mut read).and_then(|()| block_writer::write_plane(
+        &read, &mut block, 8, h as u32, 1,
+    ));
+    match answer {
+        Ok(size) if size <= 512 => bytes(rt, &block[..size]),
+        Ok(_) => Ok(()),
+        Err(refusal) => refused(rt, refusal),
     }
 }
 

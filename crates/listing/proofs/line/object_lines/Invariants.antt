@@ -1,10 +1,6 @@
-use Rattle.std.proofs.Common.{◌-◌, ◌≤◌}
 use Rattle.listing.specs.Put.{Put}
 use Rattle.listing.specs.Listing.{object_lines}
 use Rattle.listing.proofs.line.object_lines.Given as goal
 
 abbrev pub invariant-loop-k : goal.invariant-loop-k
-invariant-loop-k l = (l.k ≤ l.count) × Put (object_lines l.room l.k) l.initial.out l.out l.at l.end
-
-abbrev pub decreases-loop-k : goal.decreases-loop-k
-decreases-loop-k l = l.count - l.k
+invariant-loop-k l = Put (object_lines l.room l.k) l.initial.out l.out l.at l.end
