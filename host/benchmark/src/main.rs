@@ -3,10 +3,12 @@
 //!     benchmark                  every table, two to three minutes; then whether the goals are met. The exit status is 0 either way
 //!     benchmark quick            everything once in a few seconds: the comparisons count, the times don't
 //!     benchmark --instructions   instructions a pixel for the loads and of calls that paint, where valgrind is on the machine
+//!     benchmark against FILES    how many times as long as those of the last four shared objects the calls of the first four take
 //!     benchmark ROOM             how long the load and the whole test of one room take
 //!
 //! Before a thing is timed, its result is compared, byte by byte, with the reference's and with that of every other partner.
 
+mod against;
 mod calls;
 mod casts;
 mod class;
@@ -59,6 +61,14 @@ fn tables(effort: Effort) {
     }
 }
 
+/// Ends with status 1 where a table can't be made.
+fn told(made: Result<(), String>) {
+    if let Err(why) = made {
+        eprintln!("benchmark: {why}");
+        std::process::exit(1);
+    }
+}
+
 fn main() {
     if !fair() {
         eprintln!("benchmark: built with overflow checks or debug assertions; host/bench builds it right");
@@ -70,14 +80,10 @@ fn main() {
         ["quick"] => tables(Effort::Quick),
         ["--instructions"] => count::tables(),
         [count::INSIDE] => count::inside(),
-        [room] if !room.starts_with('-') => {
-            if let Err(why) = own::table(room) {
-                eprintln!("benchmark: {why}");
-                std::process::exit(1);
-            }
-        }
+        ["against", a, b, c, d, e, f, g, h] => told(against::table(&[a, b, c, d, e, f, g, h])),
+        [room] if !room.starts_with('-') => told(own::table(room)),
         _ => {
-            eprintln!("usage: benchmark [quick | --instructions | ROOM]");
+            eprintln!("usage: benchmark [quick | --instructions | against FILES | ROOM]");
             std::process::exit(2);
         }
     }
