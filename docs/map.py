@@ -18,6 +18,7 @@ COLOURS = ["#e8eef7", "#e6f3ec", "#f6efe2", "#f7e8e8", "#efe9f6", "#e9f4f6", "#f
 WAY = "#b3261e"
 # A crate's row and column in its layer, so that the way of a draw crosses few boxes, and what it is about.
 BOXES = {
+    "refusal": (0, 4, "why it is refused"),
     "number": (0, 0, "numbers in bytes"), "bits": (0, 1, "a body's bits"), "grid": (0, 2, "rows of surfaces"), "cells": (0, 3, "eight at a time"),
     "block": (0, 0, "the block tree"), "table": (0, 1, "strip tables"), "decode": (0, 2, "a strip's pixels"),
     "strip_test": (1, 2, "a strip's test"), "strip": (0, 3, "codes, operations"),
@@ -29,8 +30,8 @@ BOXES = {
     "repaint": (0, 4, "strips painted"), "layers": (0, 5, "strip of an image"), "point": (0, 6, "object at a point"),
     "replay": (1, 2, "a history again"), "scene": (1, 5, "what a session is"), "climb": (1, 6, "parents that open"),
     "actor": (0, 3, "hidden, stamp"), "cast": (0, 4, "a whole cast"), "limbs": (0, 5, "ticks of limbs"), "costume": (0, 6, "starts"),
-    "kildegrom": (0, 0, "the C calls"), "call_list": (0, 1, "calls in bytes"), "demands": (0, 2, "demands' pages"),
-    "kildegrom_c": (0, 3, "the C archive"),
+    "kildegrom": (0, 0, "the C archive"), "call_list": (0, 1, "calls in bytes"), "demands": (0, 2, "demands' pages"),
+    "answers": (0, 3, "answers as numbers"),
     "listing": (0, 0, "a room as text"), "list_room": (0, 1, "./list"), "player": (0, 2, "./play"),
     "list_test": (0, 3, "test of ./list"), "vectors": (0, 4, "test of strips"), "input": (0, 5, "a file's bytes"),
 }

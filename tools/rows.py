@@ -1,5 +1,5 @@
 #!/usr/bin/env python3
-"""Prints the two tables of crates/decode/src/rows.rt: for each byte of a strip's bits, the whole operations at its front, as bits + 16 x pixels
+"""Prints the two tables of crates/strip_test/src/rows.rt: for each byte of a strip's bits, the whole operations at its front, as bits + 16 x pixels
 + 256 x index (crates/decode/specs/Look.antt says what they are; the proof computes each row again)."""
 
 
