@@ -28,12 +28,15 @@ fn columns(src: &[u8], h: usize, out: &mut [u8])
     }
 }
 
-// The pixels of `src`, made by rows already, into the first 8h bytes of `out`.
+// The pixels of `src`, made by rows already, into the first 8h bytes of `out`. With copy_from_slice the archive needed memmove too, since for all
+// that the compiler knows the two may overlap.
 fn rows(src: &[u8], h: usize, out: &mut [u8])
     requires { (8 * h ≤ length src.now) × (8 * h ≤ length out.old) }
     ensures { out.new ≡ over (placed false h src.now) out.old }
 {
-    out[..8 * h].copy_from_slice(&src[..8 * h]);
+    for i in 0..8 * h {
+        out[i] = src[i];
+    }
 }
 
 // The pixels of `src`, by rows, into the first 8h bytes of `out`.
