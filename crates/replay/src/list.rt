@@ -34,14 +34,22 @@ pub fn refused(s: Shown, refusal: u8) -> Shown
     Shown { refusal, ..s }
 }
 
+// An entry goes last, in place: in a loop a list that is handed on by value is copied at each turn.
+fn append(s: &mut Shown, e: Entry)
+    requires { s.old.n < most_shown }
+    ensures { (entries s.new ≡ entries s.old ++ e ∷ []) × (s.new.n ≡ s.old.n + 1) × (s.new.refusal ≡ s.old.refusal) }
+{
+    s.list[s.n] = e;
+    s.n += 1;
+}
+
 // An entry goes last.
 pub fn push(s: Shown, e: Entry) -> Shown
     requires { s.n < most_shown }
     ensures { (entries result ≡ entries s ++ e ∷ []) × (result.n ≡ s.n + 1) × (result.refusal ≡ s.refusal) }
 {
     let mut t = s;
-    t.list[t.n] = e;
-    t.n += 1;
+    append(&mut t, e);
     t
 }
 
@@ -76,7 +84,7 @@ pub fn kept(objects: Objects<'_>, boxes: bool, s: Shown, e: Entry) -> Shown
     let mut t = empty();
     for f in &s.list[..s.n] {
         if !goes(objects, boxes, e, *f) {
-            t = push(t, *f);
+            append(&mut t, *f);
         }
     }
     t

@@ -24,9 +24,9 @@ loop-f-preserved c =
     elim c.if-not-goes.branch [
       | then-not-goes w ↦ rw w.t-is (record {
         few = omega arith;
-        right = w.push-t.ensures.2 ∙ inv.right;
+        right = w.append.ensures.2 ∙ inv.right;
         so_far = λ v. without_more false (goes (room_of_tables A.objects.rows.now v A.objects.size) A.boxes A.e) (entries A.s) c.loop-f.f-index _ _
-            (entries c.loop-f.t) c.loop-f-test.true w.push-t.ensures.0 (w.if-not-goes.ensures v) (inv.so_far v);
+            (entries c.loop-f.t) c.loop-f-test.true w.append.ensures.0 (w.if-not-goes.ensures v) (inv.so_far v);
       })
       | else-not-goes w ↦ rw w.t-is (record {
         few = omega arith;
