@@ -80,7 +80,7 @@ pub fn header_place(s: &[u8], lent: Lent, k: usize) -> Result<usize, Refusal>
 }
 
 // The 16 bytes of the header whose CDHD payload is at `p`.
-#[tactic(auto, unfolding(crate::specs::Object::header_bytes))]
+#[tactic(auto, using(crate::proofs::ObjectLaws::header_copied))]
 pub fn header_bytes(s: &[u8], p: usize) -> [u8; 16]
     requires { p + 13 ≤ length s.now }
     ensures { result ≡ header_bytes s.now p }
