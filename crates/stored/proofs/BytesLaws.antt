@@ -1,5 +1,5 @@
 -- Laws of a session's bytes: what was put is read back, and the rest stays. Assumes nothing.
-use Rattle.std.proofs.Common.{ℕ, zero, suc, ◌+◌, ◌*◌, ◌-◌, ◌<◌, ◌≤◌, ◌≡◌, refl, sym, ap, ap₂, ◌∙◌, Bool, true, false, ◌&&◌, List, [], ◌∷◌, ◌++◌, get_or, set, take, drop, length, length-set, replicate, get_or-set_same, get_or-set_other, drop-cons, get_or-take, length-take-le, arith, add-one}
+use Rattle.std.proofs.Common.{ℕ, zero, suc, ◌+◌, ◌*◌, ◌-◌, ◌<◌, ◌≤◌, ◌≡◌, refl, sym, ap, ap₂, subst, ◌∙◌, Bool, true, false, ◌&&◌, List, [], ◌∷◌, ◌++◌, get_or, set, take, drop, length, length-set, replicate, get_or-set_same, get_or-set_other, drop-cons, get_or-take, length-take-le, arith, add-one}
 use mathlib.Core.Bool.{and-false}
 use lib.Seq.{drop-length}
 use Rattle.number.proofs.BufferLaws.{over_of}
@@ -10,8 +10,9 @@ use Rattle.scene.specs.declared.Step.{Step}
 use Rattle.scene.specs.declared.Step.TheVariants.{Draw, Hide}
 use Rattle.scene.specs.Steps.{most_steps}
 use Rattle.stored.specs.Bytes.{down, step_of, step_at, kind_of, object_of, state_of, place_a, place_b, put5, put_step, Mark, mark, mark_at, marks_from, is_mark, same_marks}
-use Rattle.stored.specs.Bytes.{put_marks, put_shown, emptied, steps_of, put_history, put_call}
+use Rattle.stored.specs.Bytes.{put_marks, put_shown, emptied, steps_of, put_history, put_call, All, SmallEntry}
 use Rattle.stored.specs.Layout.{session_size, steps_from, step_size, shown_from, mark_size}
+use Rattle.stored.proofs.Lists.{all_at}
 
 -- a store at i leaves what stands before it, and what stands after it
 pub before : (l : List ℕ) (i j v : ℕ) → j < i → get_or (set l i v) j 0 ≡ get_or l j 0
@@ -240,6 +241,9 @@ module _ (list : List Entry) (n : ℕ) (fits : n ≤ length list) where
 
   no_entry : (i : ℕ) → i ≡ n → drop i es ≡ []
   no_entry i e = ap (λ (k : ℕ). drop k es) (e ∙ sym long) ∙ drop-length es
+
+  pub small_at : (i : ℕ) (d : Entry) → i < n → All SmallEntry es → SmallEntry (get_or list i d)
+  small_at i d h a = subst SmallEntry (get_or-take n list i d h) (all_at SmallEntry es i d (omega (arith, long)) a)
 
   -- one more mark is compared; all are
   pub marks_next : (l : List ℕ) (from i : ℕ) (d : Entry) (b : Bool) → i < n → b ≡ is_mark (mark_at l from i) (get_or list i d)

@@ -1,5 +1,5 @@
 -- Laws of shown lists: how long an array of entries is, and properties that every entry has. Assumes nothing.
-use Rattle.std.proofs.Common.{ℕ, ◌≡◌, refl, sym, ◌∙◌, Bool, true, false, cond, ◌||◌, List, [], ◌∷◌, ◌++◌, map, length, arith}
+use Rattle.std.proofs.Common.{ℕ, zero, suc, ◌<◌, ◌≡◌, refl, sym, ◌∙◌, Bool, true, false, cond, ◌||◌, List, [], ◌∷◌, ◌++◌, map, get_or, length, arith, not-suc-le-zero, le_of_suc-le-suc}
 use lib.ListN.{length-map}
 use Rattle.scene.specs.declared.Entry.{Entry}
 use Rattle.scene.specs.Steps.{some, without}
@@ -29,6 +29,11 @@ all_without P Q f (e ∷ es) h a = go (f e) refl (all_without P Q f es h a.1)
 pub all_map : (P Q : Entry → Type 0) (es : List Entry) → ((e : Entry) → P e → Q e) → All P es → All Q es
 all_map P Q [] h a = tt
 all_map P Q (e ∷ es) h a = (h e a.0, all_map P Q es h a.1)
+
+pub all_at : (P : Entry → Type 0) (es : List Entry) (i : ℕ) (d : Entry) → i < length es → All P es → P (get_or es i d)
+all_at P [] i d h a = absurd (not-suc-le-zero h)
+all_at P (e ∷ es) zero d h a = a.0
+all_at P (e ∷ es) (suc i) d h a = all_at P es i d (le_of_suc-le-suc h) a.1
 
 -- an entry that passes a test, among entries that all have a property, shows the property of what passes
 pub some-all : (P : Entry → Type 0) (f : Entry → Bool) (X : Type 0) (es : List Entry) → ((e : Entry) → f e ≡ true → P e → X) → All P es
