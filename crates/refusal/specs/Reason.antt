@@ -1,4 +1,4 @@
--- The number of each reason in the rules: the one place that has it.
+-- The number of each reason in the rules.
 use Rattle.std.specs.Prelude.{ℕ}
 use Rattle.refusal.specs.declared.Reason.{Reason}
 use Rattle.refusal.specs.declared.Reason.TheVariants.{NotARoom, BlockMissing, OutOfSize, BufferShort, TableWrong, CodeUnknown, BytesRunOut, PastTheStrip, OtherSession, HistoryFull, NoSuchObject, PlaceNotAllowed, NothingToTakeBack, PointOutside, AnimationWrong, SizesDiffer, CastTooLarge}

@@ -27,7 +27,7 @@ pub enum Reason {
     CastTooLarge,
 }
 
-/// A refusal: the error of every call that can be refused.
+/// A refusal, by its reason: the error of each call that answers a `Result`.
 #[derive(Clone, Copy, Debug, PartialEq, Eq)]
 pub struct Refusal {
     reason: Reason,
