@@ -6,6 +6,10 @@
 
 enum { WHEEL = 32 };
 
+/* What is held (Shift, Ctrl) after the keys that were taken so far. SDL_GetModState knows the keys already that still wait in SDL's queue: where the
+ * window is late, a press would count as one without the Shift that was let go after it. */
+static Uint16 held;
+
 static void next_plane(void)
 {
     uint32_t *plane = &scene.view.plane, planes = scene.bench.planes;
@@ -94,7 +98,7 @@ static void on_press(const SDL_MouseButtonEvent *button)
     if (button->button != SDL_BUTTON_LEFT) return;
     on_pointer(button->x, button->y);
     if (!scene.over) return;
-    if ((SDL_GetModState() & KMOD_SHIFT) == 0) select_at(scene.x, scene.y);
+    if ((held & KMOD_SHIFT) == 0) select_at(scene.x, scene.y);
     drag_begin(scene.x, scene.y);
     SDL_CaptureMouse(SDL_TRUE);
 }
@@ -108,14 +112,14 @@ static void on_release(const SDL_MouseButtonEvent *button)
 
 static void on_wheel(const SDL_MouseWheelEvent *wheel)
 {
-    SDL_Keymod with = SDL_GetModState();
-    if ((with & KMOD_CTRL) != 0) set_scale(wheel->y > 0 ? scene.view.scale + 1 : scene.view.scale - 1);
-    else if ((with & KMOD_SHIFT) != 0) scroll_by(-WHEEL * wheel->y, 0);
+    if ((held & KMOD_CTRL) != 0) set_scale(wheel->y > 0 ? scene.view.scale + 1 : scene.view.scale - 1);
+    else if ((held & KMOD_SHIFT) != 0) scroll_by(-WHEEL * wheel->y, 0);
     else scroll_wheel(WHEEL * wheel->x, -WHEEL * wheel->y);
 }
 
 static void on_key_down(const SDL_Keysym *key)
 {
+    held = key->mod;
     if ((key->mod & KMOD_CTRL) != 0) on_control(key->sym);
     else on_key(key->sym, (key->mod & KMOD_SHIFT) != 0);
 }
@@ -126,6 +130,7 @@ static void on_event(const SDL_Event *event)
     case SDL_QUIT: scene.ended = 1; break;
     case SDL_TEXTINPUT: on_character((unsigned char)event->text.text[0]); break;
     case SDL_KEYDOWN: on_key_down(&event->key.keysym); break;
+    case SDL_KEYUP: held = event->key.keysym.mod; break;
     case SDL_MOUSEMOTION: on_pointer(event->motion.x, event->motion.y); break;
     case SDL_MOUSEBUTTONDOWN: on_press(&event->button); break;
     case SDL_MOUSEBUTTONUP: on_release(&event->button); break;

@@ -47,24 +47,33 @@ static void push_character(char character)
     push(&event);
 }
 
-/* A key by its name, with what is held: `Ctrl+Shift+Z`. */
-static void push_key(const char *name)
+/* A key goes down or is let go, after which `held` is held. */
+static void push_key_event(Uint32 type, SDL_Keycode key, Uint16 held)
 {
     SDL_Event event;
+    memset(&event, 0, sizeof event);
+    event.type = type;
+    event.key.keysym.sym = key;
+    event.key.keysym.mod = held;
+    push(&event);
+}
+
+/* A key by its name, with what is held: `Ctrl+Shift+Z`. Then all is let go. */
+static void push_key(const char *name)
+{
+    SDL_Keycode key;
     Uint16 held = KMOD_NONE;
     const char *plus = strchr(name, '+');
-    memset(&event, 0, sizeof event);
     for (; plus != NULL && plus[1] != '\0'; plus = strchr(name, '+')) {
         if (strncmp(name, "Ctrl+", 5) == 0) held |= KMOD_LCTRL;
         else if (strncmp(name, "Shift+", 6) == 0) held |= KMOD_LSHIFT;
         else wrong_line("no such key", name);
         name = plus + 1;
     }
-    event.type = SDL_KEYDOWN;
-    event.key.keysym.mod = held;
-    event.key.keysym.sym = SDL_GetKeyFromName(name);
-    if (event.key.keysym.sym == SDLK_UNKNOWN) wrong_line("no such key", name);
-    push(&event);
+    key = SDL_GetKeyFromName(name);
+    if (key == SDLK_UNKNOWN) wrong_line("no such key", name);
+    push_key_event(SDL_KEYDOWN, key, held);
+    push_key_event(SDL_KEYUP, key, KMOD_NONE);
 }
 
 static void play_keys(char *names)
@@ -163,13 +172,18 @@ static void take_numbers(const char *rest, int count, int32_t *numbers)
     if (at[strspn(at, " ")] != '\0') wrong_line("not the numbers that it takes", rest);
 }
 
-static void play_drag_line(const char *rest, SDL_Keymod held)
+static void play_drag_line(const char *rest)
 {
     int32_t at[4];
     take_numbers(rest, 4, at);
-    SDL_SetModState(held);
     play_drag(at[0], at[1], at[2], at[3]);
-    SDL_SetModState(KMOD_NONE);
+}
+
+static void play_shift_drag_line(const char *rest)
+{
+    push_key_event(SDL_KEYDOWN, SDLK_LSHIFT, KMOD_LSHIFT);
+    play_drag_line(rest);
+    push_key_event(SDL_KEYUP, SDLK_LSHIFT, KMOD_NONE);
 }
 
 static void play_place(const char *rest, void (*play)(int32_t, int32_t))
@@ -195,8 +209,8 @@ static void play_line(const char *word, char *rest)
     if (strcmp(word, "key") == 0) play_keys(rest);
     else if (strcmp(word, "move") == 0) play_place(rest, play_move);
     else if (strcmp(word, "click") == 0) play_place(rest, play_click);
-    else if (strcmp(word, "drag") == 0) play_drag_line(rest, KMOD_NONE);
-    else if (strcmp(word, "Shift+drag") == 0) play_drag_line(rest, KMOD_LSHIFT);
+    else if (strcmp(word, "drag") == 0) play_drag_line(rest);
+    else if (strcmp(word, "Shift+drag") == 0) play_shift_drag_line(rest);
     else if (strcmp(word, "replace") == 0) replace_room(rest);
     else if (strcmp(word, "save") == 0) set_path(scene.list, rest);
     else if (strcmp(word, "picture") == 0) set_path(scene.picture, rest);

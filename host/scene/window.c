@@ -174,9 +174,9 @@ void paint_window(void)
     scene.changed = 0;
     take_size();
     paint_canvas();
-    name_window();
     painted = SDL_CreateRGBSurfaceWithFormatFrom(canvas.rgb, (int)canvas.width, (int)canvas.height, 24, 3 * (int)canvas.width, SDL_PIXELFORMAT_RGB24);
-    shown = SDL_GetWindowSurface(window);
+    shown = SDL_GetWindowSurface(window); /* the first time SDL may open another window in the place of this one; the one that stays gets the name */
+    name_window();
     if (painted != NULL && shown != NULL) SDL_BlitSurface(painted, NULL, shown, NULL);
     SDL_FreeSurface(painted);
     SDL_UpdateWindowSurface(window);
