@@ -158,15 +158,23 @@ fn loads(effort: Effort, sides: Sides) {
     test.print();
 }
 
+/// Rooms, and how many draws are made before the step that is timed: a few, and all but one that a history takes, each of another object.
+fn dressed() -> Vec<(Spec, usize)> {
+    let few = ROOMS.map(|(w, h, n, objects)| (Spec::furnished(w, h, n, objects), STEPS));
+    let many = (Spec { image: (8, 8), ..Spec::furnished(640, 200, 1, 64) }, 63);
+    few.into_iter().chain([many]).collect()
+}
+
 /// A draw, a hide and a take-back after some draws.
 fn steps(effort: Effort, sides: Sides) {
     let [here, there] = sides.map(|side| &side[0]);
     let mut ratios = [Ratios::of("draw"), Ratios::of("hide"), Ratios::of("take_back")];
-    for (w, h, n, objects) in ROOMS {
-        let room = &Spec::furnished(w, h, n, objects).make();
+    for (spec, draws) in dressed() {
+        let case = format!("{}x{}, {} planes, {draws} draws", spec.w, spec.h, spec.n);
+        let room = &spec.make();
         let before = &mut there.loaded(room);
-        (0..STEPS).for_each(|i| there.turn(draw(room, i), room, before));
-        for (what, ratios) in [draw(room, STEPS), Turn::Hide(1), Turn::TakeBack].into_iter().zip(&mut ratios) {
+        (0..draws).for_each(|i| there.turn(draw(room, i), room, before));
+        for (what, ratios) in [draw(room, draws), Turn::Hide(1), Turn::TakeBack].into_iter().zip(&mut ratios) {
             let after = |side: &Library| {
                 let mut stage = before.clone();
                 side.turn(what, room, &mut stage);
@@ -179,7 +187,7 @@ fn steps(effort: Effort, sides: Sides) {
                 stage.become_like(before);
                 timed(|| side.turn(what, room, stage))
             };
-            ratios.see(effort, sides, format!("{w}x{h}, {n} planes"), &side);
+            ratios.see(effort, sides, case.clone(), &side);
         }
     }
     ratios.into_iter().for_each(Ratios::print);
